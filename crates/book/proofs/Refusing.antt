@@ -1,0 +1,54 @@
+-- Laws of refusals: what an accepted call has, and what a refused call leaves.
+use Prim.Native.Nat.{ℕ}
+use mathlib.Core.Path.{_≡_, refl}
+use mathlib.Core.Bool.{Bool, true, false, cond, not}
+use mathlib.Core.List.{List, [], _∷_, _++_}
+use native.Mathlib.Omega.{arith}
+use lib.Dec.{ltb}
+use borrow.Author.Tests.{ltb-true, eq-eqb, ne-eqb, not-false}
+use Rattle.units.specs.Lists.{all}
+use Rattle.units.proofs.Tests.{and-true}
+use Rattle.units.proofs.Members.{Every, every-split}
+use Rattle.book.specs.Sound.{sound}
+use Rattle.book.specs.Refusal.{Refusal, refuse, firstRefusal, Refusals, refusalOf, changedUnless}
+
+-- a refusal's number is above 0
+abbrev pub isNumbered : Refusal → Bool
+isNumbered r = ltb 0 (r .number)
+
+-- it does not hold
+abbrev pub NotHeld : Refusal → Type 0
+NotHeld r = r .holds ≡ false
+
+-- an accepted call: its book is sound and none of its refusals holds
+pub record Accepted (rs : Refusals) (s : List ℕ) : Type 0 where
+  pub ofCall : Every NotHeld (rs .ofCall)
+  pub book : sound s ≡ true
+  pub ofBook : Every NotHeld (rs .ofBook)
+
+none-held : (rs : List Refusal) → all isNumbered rs ≡ true → firstRefusal rs ≡ 0 → Every NotHeld rs
+none-held [] n e = tt
+none-held (r ∷ rs) n e = let a = and-true (isNumbered r) (all isNumbered rs) n in go (r .holds) refl e (a .0) (λ f. none-held rs (a .1) f)
+  where
+    go : (b : Bool) → r .holds ≡ b → cond b (r .number) (firstRefusal rs) ≡ 0 → isNumbered r ≡ true → (firstRefusal rs ≡ 0 → Every NotHeld rs)
+        → NotHeld r × Every NotHeld rs
+    go true h f m ih = absurd (omega (arith, ltb-true 0 (r .number) m))
+    go false h f m ih = (h, ih f)
+
+-- every refusal of a call, refusal 2 among them
+abbrev pub refusalsOf : Refusals → List ℕ → List Refusal
+refusalsOf rs s = rs .ofCall ++ (refuse 2 (not (sound s)) ∷ rs .ofBook)
+
+-- a call that gives 0 is accepted, where every refusal has a number
+pub accepted : (rs : Refusals) (s : List ℕ) → all isNumbered (refusalsOf rs s) ≡ true → refusalOf rs s ≡ 0 → Accepted rs s
+accepted rs s n e =
+    let h = every-split NotHeld (rs .ofCall) (refuse 2 (not (sound s)) ∷ rs .ofBook) (none-held (refusalsOf rs s) n e) in
+    record { ofCall = h .0; book = not-false (sound s) (h .1 .0); ofBook = h .1 .1 }
+
+-- an accepted call leaves the book that it makes
+pub book-accepted : (r : ℕ) (before after : List ℕ) → r ≡ 0 → changedUnless r before after .book ≡ after
+book-accepted r before after e = rw (eq-eqb r 0 e)
+
+-- a refused call leaves the book as it was
+pub book-refused : (r : ℕ) (before after : List ℕ) → (r ≡ 0 → ⊥) → changedUnless r before after .book ≡ before
+book-refused r before after h = rw (ne-eqb r 0 h)

@@ -1,0 +1,57 @@
+-- Worked values of soundness, check and find, computed by the checker.
+use Prim.Native.Nat.{ℕ}
+use mathlib.Core.Path.{_≡_, refl}
+use mathlib.Core.Bool.{Bool, true, false, not, _&&_}
+use mathlib.Core.List.{List, [], _∷_, _++_}
+use lib.ListN.{length, take, drop, set, replicate}
+use lib.Dec.{eqb}
+use Rattle.units.specs.Lists.{all, sameNumbers}
+use Rattle.record.specs.declared.order.Side.{Side}
+use Rattle.record.specs.declared.order.Side.the-variants.{Buy, Sell}
+use Rattle.record.specs.declared.order.Kind.the-variants.{Displayed}
+use Rattle.record.specs.declared.order.Order.{Order}
+use Rattle.record.specs.Codec.{encode, decode}
+use Rattle.record.specs.Record.{numbersOf, orderOf, numbersSound}
+use Rattle.book.specs.Sound.{sound, ordersOf, bookOf}
+use Rattle.book.specs.Lookup.{checkCall, findCall, foundPart}
+
+order : Side → ℕ → ℕ → Bool → Order
+order side number price setter = record {
+  side = side;
+  kind = Displayed;
+  number = number;
+  price = record { 0 = price };
+  size = record { 0 = 300 };
+  setter = setter;
+}
+
+-- a buy above a sell, both setters, and a free record
+crossed : List ℕ
+crossed = bookOf 3 (order Buy 7 100100 true ∷ order Sell 9 100000 true ∷ [])
+
+values : List Bool
+values =
+    sound [] ∷
+    sound crossed ∷
+    eqb (checkCall crossed .orders) 2 ∷
+    -- a length that is no whole number of records; too many records; a byte behind the orders
+    not (sound (crossed ++ (0 ∷ []))) ∷
+    not (sound (replicate 8224 0)) ∷
+    not (sound (set crossed 95 1)) ∷
+    -- a number that doesn't rise; two setter marks at one side and price, and at two prices
+    not (sound (bookOf 2 (order Buy 7 100100 false ∷ order Buy 7 100000 false ∷ []))) ∷
+    not (sound (bookOf 2 (order Buy 7 100100 true ∷ order Buy 9 100100 true ∷ []))) ∷
+    sound (bookOf 2 (order Buy 7 100100 true ∷ order Buy 9 100200 true ∷ [])) ∷
+    eqb (checkCall (set crossed 0 1) .refusal) 2 ∷
+    eqb (checkCall (set crossed 0 1) .orders) 0 ∷
+    -- find: the second record; no such order; the number before the book, the book before its orders
+    sameNumbers (foundPart (findCall 9 crossed) crossed) (take 32 (drop 32 crossed)) ∷
+    (eqb (findCall 9 crossed .start) 32 && eqb (findCall 9 crossed .length) 32) ∷
+    eqb (findCall 8 crossed .refusal) 3 ∷
+    eqb (findCall 0 (set crossed 0 1) .refusal) 1 ∷
+    eqb (findCall 8 (set crossed 0 1) .refusal) 2 ∷
+    sameNumbers (foundPart (findCall 8 crossed) crossed) [] ∷ []
+
+worked : all (λ b. b) values ≡ true
+unfolding values crossed order sound ordersOf bookOf checkCall findCall encode decode numbersOf orderOf numbersSound
+worked = refl

@@ -1,0 +1,4 @@
+pub mod Sound
+pub mod Refusal
+pub mod Lookup
+pub mod Examples

@@ -1,0 +1,93 @@
+-- A book's bytes: its records, what makes them sound, the orders that they hold, and the bytes of a list of orders.
+use Prim.Native.Nat.{ℕ, zero, suc, _-_, _*_, _/_, _%_}
+use mathlib.Core.Bool.{Bool, true, cond, not, _&&_}
+use mathlib.Core.List.{List, [], _∷_, _++_, map}
+use lib.ListN.{length, getD, take, drop, replicate}
+use lib.Dec.{leb, ltb, eqb}
+use Rattle.units.specs.Lists.{all, any, flatMap, isZero}
+use Rattle.record.specs.declared.order.Order.{Order}
+use Rattle.record.specs.Codec.{Form, formBytes}
+use Rattle.record.specs.Order.{sideNumber, priceOf}
+use Rattle.record.specs.Record.{orderForm, encodeOrder, decodeOrder, recordSound}
+
+-- a book has room for at most 256 orders
+abbrev pub mostOrders : ℕ
+mostOrders = 256
+
+-- in strictly rising order number, above m
+abbrev pub rising : ℕ → List Order → Bool
+rising m [] = true
+rising m (o ∷ os) = ltb m (o .number) && rising (o .number) os
+
+-- both have the setter mark, at one side and price
+abbrev pub sameSetter : Order → Order → Bool
+sameSetter a b = a .setter && b .setter && eqb (sideNumber (a .side)) (sideNumber (b .side)) && eqb (priceOf a) (priceOf b)
+
+-- at most one order per side and price has the setter mark
+abbrev pub settersSound : List Order → Bool
+settersSound [] = true
+settersSound (o ∷ os) = not (any (sameSetter o) os) && settersSound os
+
+-- orders fill the front: a record whose first byte is zero ends them
+abbrev pub isUnused : List ℕ → Bool
+isUnused r = isZero (getD r 0 0)
+
+abbrev pub occupied : List (List ℕ) → List (List ℕ)
+occupied [] = []
+occupied (r ∷ rs) = cond (isUnused r) [] (r ∷ occupied rs)
+
+abbrev pub behind : List (List ℕ) → List (List ℕ)
+behind [] = []
+behind (r ∷ rs) = cond (isUnused r) (r ∷ rs) (behind rs)
+
+-- Books of any form of record.
+module _ (f : Form) where
+  -- the first n records of a buffer
+  abbrev pub firstRecords : ℕ → List ℕ → List (List ℕ)
+  firstRecords zero s = []
+  firstRecords (suc n) s = take (formBytes f) s ∷ firstRecords n (drop (formBytes f) s)
+
+  -- how many records a buffer has room for
+  abbrev pub capacityIn : List ℕ → ℕ
+  capacityIn s = length s / formBytes f
+
+  abbrev pub recordsIn : List ℕ → List (List ℕ)
+  recordsIn s = firstRecords (capacityIn s) s
+
+  -- the orders of a book, in the order of their records
+  abbrev pub ordersIn : List ℕ → List Order
+  ordersIn s = map (decodeOrder f) (occupied (recordsIn s))
+
+  -- A book is a whole number of records, at most 256 of them. Its orders' records are sound, every byte behind them is zero, their
+  -- numbers rise, and setter marks are one per side and price. Buys and sells may overlap in price.
+  abbrev pub soundIn : List ℕ → Bool
+  soundIn s =
+      leb (length s) (mostOrders * formBytes f)
+      && isZero (length s % formBytes f)
+      && all (recordSound f) (occupied (recordsIn s))
+      && all (all isZero) (behind (recordsIn s))
+      && rising 0 (ordersIn s)
+      && settersSound (ordersIn s)
+
+  -- a book with room for `capacity` orders that has these, zeros behind them
+  abbrev pub bookIn : ℕ → List Order → List ℕ
+  bookIn capacity os = flatMap (encodeOrder f) os ++ replicate (formBytes f * (capacity - length os)) 0
+
+-- the form of a book's records: 32 bytes, so a book is 0 to 8,192 bytes
+abbrev pub form : Form
+form = orderForm
+
+abbrev pub recordBytes : ℕ
+recordBytes = formBytes form
+
+unfoldable pub sound : List ℕ → Bool
+sound s = soundIn form s
+
+unfoldable pub ordersOf : List ℕ → List Order
+ordersOf s = ordersIn form s
+
+unfoldable pub bookOf : ℕ → List Order → List ℕ
+bookOf capacity os = bookIn form capacity os
+
+abbrev pub capacityOf : List ℕ → ℕ
+capacityOf s = capacityIn form s

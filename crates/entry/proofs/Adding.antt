@@ -1,0 +1,106 @@
+-- An accepted add leaves a sound book with the new order last.
+use Prim.Native.Nat.{ℕ, _≤_, _<_}
+use mathlib.Core.Path.{_≡_, refl}
+use mathlib.Core.Bool.{Bool, true, false, not, _&&_, _||_, false≢true}
+use mathlib.Core.List.{List, [], _∷_, List·Memᴰ}
+use native.Mathlib.Omega.{arith}
+use lib.ListN.{length, length-append}
+use lib.Dec.{eqb, leb}
+use borrow.Author.Tests.{ltb-true, leb-false, ne-eqb, not-false}
+use Rattle.units.specs.Lists.{all}
+use Rattle.units.specs.Lots.{roundLot}
+use Rattle.units.proofs.Members.{every-member, member-every, all-member, none-member}
+use Rattle.units.proofs.Facts.{chain-true}
+use Rattle.record.specs.declared.order.Side.{Side}
+use Rattle.record.specs.declared.order.Side.the-variants.{Buy, Sell}
+use Rattle.record.specs.declared.order.Order.{Order}
+use Rattle.record.specs.Order.{sideNumber, sideOf, kindOf, isDisplayed, priceOf, interestOf}
+use Rattle.record.specs.Trading.{isOpposite, isPricedBetter}
+use Rattle.record.proofs.Orders.{OrderSound, order-facts}
+use Rattle.book.specs.Sound.{sameSetter, sound, ordersOf, capacityOf}
+use Rattle.book.proofs.Soundness.{OrdersSound, orders-sound}
+use Rattle.book.proofs.Settlement.{append-sound}
+use Rattle.book.proofs.Refusing.{Accepted, accepted}
+use Rattle.book.proofs.Changing.{changed-orders, changed-sound, changed-length}
+use Rattle.entry.proofs.Requests.{requested-sound}
+use Rattle.entry.specs.Add.{AddRequest, requestInRange, requested, beats, setsPrice, isStale, addRefusals, added, addCall}
+
+-- a strictly better price is another price
+apart : (a b : Side) (p r : ℕ) → (isOpposite a b || false || isPricedBetter a p r) ≡ true → (eqb (sideNumber b) (sideNumber a) && eqb r p) ≡ false
+apart Buy Buy p r e = let l = ltb-true r p e in ne-eqb r p (λ f. omega arith)
+apart Buy Sell p r e = refl
+apart Sell Buy p r e = refl
+apart Sell Sell p r e = let l = ltb-true p r e in ne-eqb r p (λ f. omega arith)
+
+-- a new mark meets no mark of a displayed order
+marks-apart : (mark own shown : Bool) (a b : Side) (p r : ℕ) → (mark ≡ true → shown ≡ true)
+    → (own ≡ true → (isOpposite a b || not shown || isPricedBetter a p r) ≡ true) → (mark && own && eqb (sideNumber b) (sideNumber a) && eqb r p) ≡ false
+marks-apart false own shown a b p r h e = refl
+marks-apart true false shown a b p r h e = refl
+marks-apart true true true a b p r h e = apart a b p r (e refl)
+marks-apart true true false a b p r h e = absurd (false≢true (h refl))
+
+module _ (lot : ℕ) (q : AddRequest) (os : List Order) where
+  -- whether the new order sets the price
+  abbrev sets : Bool
+  sets = setsPrice lot (requested q false) os
+
+  sets-facts : sets ≡ true → (isDisplayed (kindOf (q .kind) (q .minimum)) ≡ true) × (all (beats (requested q false)) os ≡ true)
+  unfolding setsPrice requested
+  sets-facts e =
+      let new = requested q false in
+      let t = chain-true (isDisplayed (new .kind)) (leb lot (interestOf new .displayed) ∷ all (beats new) os ∷ []) e in
+      (t .0, t .1 .1 .0)
+
+  -- the new order's mark meets no other
+  unmet : OrdersSound os → (p : Order) → List·Memᴰ p os → sameSetter p (requested q sets) ≡ false
+  unfolding requested
+  unmet h p m =
+      marks-apart (p .setter) sets (isDisplayed (p .kind)) (sideOf (q .side)) (p .side) (q .price) (priceOf p)
+      (order-facts p (every-member OrderSound os (h .each) p m) .marked)
+      (λ f. all-member (beats (requested q false)) os (sets-facts f .1) p m)
+
+  -- its number is above every other
+  above : isStale (q .number) os ≡ false → (p : Order) → List·Memᴰ p os → p .number < requested q sets .number
+  unfolding requested
+  above n p m = leb-false (q .number) (p .number) (none-member (λ o. leb (q .number) (o .number)) os n p m)
+
+  -- an order in range that is not stale is added to sound orders, which stay sound
+  pub added-sound : OrdersSound os → requestInRange q ≡ true → isStale (q .number) os ≡ false → OrdersSound (added lot q os)
+  unfolding added
+  added-sound h e n =
+      append-sound (requested q sets) os h (requested-sound q e sets (λ f. sets-facts f .0))
+      (member-every (λ p. p .number < requested q sets .number) os (above n))
+      (member-every (λ p. sameSetter p (requested q sets) ≡ false) os (unmet h))
+
+-- An accepted add.
+module _ (q : AddRequest) (s : List ℕ) (e : addCall q s .refusal ≡ 0) where
+  call : Accepted (addRefusals q (capacityOf s) (ordersOf s)) s
+  unfolding addCall
+  call = accepted (addRefusals q (capacityOf s) (ordersOf s)) s refl e
+
+  -- the orders that it leaves are sound
+  pub add-orders-sound : OrdersSound (added roundLot q (ordersOf s))
+  add-orders-sound =
+      added-sound roundLot q (ordersOf s) (orders-sound s (call .book)) (not-false (requestInRange q) (call .ofCall .0)) (call .ofBook .0)
+
+  room : length (added roundLot q (ordersOf s)) ≤ capacityOf s
+  unfolding added
+  room =
+      let n = length-append (ordersOf s) (requested q (sets roundLot q (ordersOf s)) ∷ []) in
+      omega (arith, leb-false (capacityOf s) (length (ordersOf s)) (call .ofBook .1 .1 .0))
+
+  -- the book has the new order last
+  pub add-orders : ordersOf (addCall q s .book) ≡ added roundLot q (ordersOf s)
+  unfolding addCall
+  add-orders = changed-orders (addCall q s .refusal) s (added roundLot q (ordersOf s)) e (call .book) add-orders-sound room
+
+  -- the book is sound
+  pub add-sound : sound (addCall q s .book) ≡ true
+  unfolding addCall
+  add-sound = changed-sound (addCall q s .refusal) s (added roundLot q (ordersOf s)) e (call .book) add-orders-sound room
+
+  -- the book is as long as before
+  pub add-length : length (addCall q s .book) ≡ length s
+  unfolding addCall
+  add-length = changed-length (addCall q s .refusal) s (added roundLot q (ordersOf s)) e (call .book) add-orders-sound room

@@ -1,0 +1,74 @@
+-- The call add: an order is put last in the book.
+use Prim.Native.Nat.{ℕ}
+use mathlib.Core.Bool.{Bool, false, not, _&&_, _||_}
+use mathlib.Core.List.{List, [], _∷_, _++_}
+use lib.ListN.{length}
+use lib.Dec.{leb}
+use Rattle.units.specs.Lists.{all, any, inRange}
+use Rattle.units.specs.Lots.{roundLot}
+use Rattle.record.specs.declared.order.Order.{Order}
+use Rattle.record.specs.Order.{sideOf, kindOf, minimumOf, isDisplayed, priceOf, interestOf, allShares}
+use Rattle.record.specs.Order.{numberInRange, priceInRange, sharesInRange, minimumInRange}
+use Rattle.record.specs.Trading.{isOpposite, isPricedBetter, isTradable, asTaker}
+use Rattle.book.specs.Sound.{ordersOf, bookOf, capacityOf}
+use Rattle.book.specs.Refusal.{Refusals, refuse, refusalOf, Changed, changedUnless}
+
+-- the numbers that add is given
+pub record AddRequest : Type 0 where
+  pub side : ℕ
+  pub kind : ℕ
+  pub number : ℕ
+  pub price : ℕ
+  pub size : ℕ
+  pub minimum : ℕ
+
+abbrev pub requestInRange : AddRequest → Bool
+requestInRange q =
+    inRange 1 2 (q .side) && inRange 1 3 (q .kind) && numberInRange (q .number) && priceInRange (q .price)
+    && sharesInRange (q .size) && minimumInRange (q .kind) (q .size) (q .minimum)
+
+-- the order that is asked for, with or without the setter mark
+unfoldable pub requested : AddRequest → Bool → Order
+requested q setter = record {
+  side = sideOf (q .side);
+  kind = kindOf (q .kind) (q .minimum);
+  number = q .number;
+  price = record { 0 = q .price };
+  size = record { 0 = q .size };
+  setter = setter;
+}
+
+-- o is no displayed order on the new order's side, or the new order is priced strictly better
+abbrev pub beats : Order → Order → Bool
+beats new o = isOpposite (new .side) (o .side) || not (isDisplayed (o .kind)) || isPricedBetter (new .side) (priceOf new) (priceOf o)
+
+-- An order sets the price when it is displayed, has a round lot or more, and is priced strictly better than every displayed order on
+-- its side; so it does where there is none.
+unfoldable pub setsPrice : ℕ → Order → List Order → Bool
+setsPrice lot new os = isDisplayed (new .kind) && leb lot (interestOf new .displayed) && all (beats new) os
+
+-- the new order could trade with o: o is on the other side within its price, and o's minimum, if it has one, isn't above the new size
+abbrev pub couldTrade : Order → Order → Bool
+couldTrade new o = isTradable (asTaker new) o && leb (minimumOf (o .kind)) (allShares (interestOf new))
+
+-- refusal 4: the number isn't above every number in the book
+abbrev pub isStale : ℕ → List Order → Bool
+isStale n os = any (λ o. leb n (o .number)) os
+
+abbrev pub addRefusals : AddRequest → ℕ → List Order → Refusals
+addRefusals q capacity os = record {
+  ofCall = refuse 1 (not (requestInRange q)) ∷ [];
+  ofBook =
+      refuse 4 (isStale (q .number) os) ∷
+      refuse 5 (any (couldTrade (requested q false)) os) ∷
+      refuse 6 (leb capacity (length os)) ∷ [];
+}
+
+-- the orders with the new one last, marked where it sets the price
+unfoldable pub added : ℕ → AddRequest → List Order → List Order
+added lot q os = os ++ (requested q (setsPrice lot (requested q false) os) ∷ [])
+
+unfoldable pub addCall : AddRequest → List ℕ → Changed
+addCall q s =
+    let os = ordersOf s in
+    changedUnless (refusalOf (addRefusals q (capacityOf s) os) s) s (bookOf (capacityOf s) (added roundLot q os))

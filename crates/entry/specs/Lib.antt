@@ -1,0 +1,3 @@
+pub mod Add
+pub mod Reduce
+pub mod Examples

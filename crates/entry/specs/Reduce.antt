@@ -1,0 +1,37 @@
+-- The call reduce: an order loses shares, and leaves when it has none.
+use Prim.Native.Nat.{ℕ, _-_, min}
+use mathlib.Core.Bool.{Bool, cond, not, _&&_}
+use mathlib.Core.List.{List, [], _∷_, map}
+use lib.Dec.{ltb}
+use Rattle.units.specs.Lists.{any, filter}
+use Rattle.record.specs.declared.order.Order.{Order}
+use Rattle.record.specs.Order.{Interest, interest, interestOf, allShares, settled, isResting, numberInRange, sharesInRange}
+use Rattle.book.specs.Sound.{ordersOf, bookOf, capacityOf}
+use Rattle.book.specs.Refusal.{Refusals, refuse, refusalOf, Changed, changedUnless}
+use Rattle.book.specs.Lookup.{hasNumber, isUnknown}
+
+-- refusal 7: more shares than the order has
+abbrev pub asksTooMuch : ℕ → ℕ → Order → Bool
+asksTooMuch n shares o = hasNumber n o && ltb (allShares (interestOf o)) shares
+
+abbrev pub reduceRefusals : ℕ → ℕ → List Order → Refusals
+reduceRefusals n shares os = record {
+  ofCall = refuse 1 (not (numberInRange n && sharesInRange shares)) ∷ [];
+  ofBook = refuse 3 (isUnknown n os) ∷ refuse 7 (any (asksTooMuch n shares) os) ∷ [];
+}
+
+-- what an order loses of each kind of interest: the non-displayed first, though no kind of order has both
+abbrev pub reduction : ℕ → Interest → Interest
+reduction shares i = let n = min shares (i .nonDisplayed) in interest (shares - n) n
+
+abbrev pub reducedIf : Bool → ℕ → Order → Order
+reducedIf b shares o = cond b (settled (reduction shares (interestOf o)) o) o
+
+-- the orders with the named one reduced; an order without shares leaves, and later ones move up
+unfoldable pub reduced : ℕ → ℕ → List Order → List Order
+reduced n shares os = filter isResting (map (λ o. reducedIf (hasNumber n o) shares o) os)
+
+unfoldable pub reduceCall : ℕ → ℕ → List ℕ → Changed
+reduceCall n shares s =
+    let os = ordersOf s in
+    changedUnless (refusalOf (reduceRefusals n shares os) s) s (bookOf (capacityOf s) (reduced n shares os))

@@ -1,0 +1,1 @@
+// Orders that enter a book, and orders that are reduced in it.

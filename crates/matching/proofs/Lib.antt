@@ -1,0 +1,16 @@
+pub mod Levels
+pub mod Entries
+pub mod Parts
+pub mod Groups
+pub mod ClosedForms
+pub mod Reaching
+pub mod Bounds
+pub mod Allotting
+pub mod Places
+pub mod Leftover
+pub mod Losses
+pub mod Unmet
+pub mod Executed
+pub mod Taking
+pub mod Transport
+pub mod TakeFair

@@ -1,0 +1,168 @@
+-- The parts of a book's orders in a group, and what each gets of an allotment, for every algorithm and paragraph.
+use Prim.Native.Nat.{ℕ, _-_}
+use mathlib.Core.Path.{_≡_, refl, _∙_}
+use mathlib.Core.Bool.{Bool, true, false, _&&_}
+use mathlib.Core.List.{List, [], _∷_, map, List·Memᴰ, Memᴰ·map}
+use native.Mathlib.Omega.{arith}
+use lib.Dec.{ltb, eqb}
+use lib.ListN.{length-map}
+use borrow.Author.Tests.{ltb-true}
+use Rattle.units.specs.Lists.{orZero, total}
+use Rattle.units.proofs.Tests.{and-true}
+use Rattle.sharing.specs.Rank.{Part, noPart, partSize, byTime, larger, smallerMinimum, ranked}
+use Rattle.sharing.specs.Round.{goesRound, round}
+use Rattle.sharing.specs.Lots.{divided, lotSharing}
+use Rattle.sharing.specs.Setter.{setterSharing}
+use Rattle.sharing.proofs.Ranks.{Rising, differ-ranked, mem-ranked}
+use Rattle.sharing.proofs.Turns.{turn, taking-le}
+use Rattle.sharing.proofs.LotSharing.{lotShare, lots-map, lots-zero}
+use Rattle.sharing.proofs.SetterSharing.{setterShare, setter-map, setters-zero}
+use Rattle.record.specs.declared.order.Order.{Order}
+use Rattle.record.specs.declared.order.Taker.{Taker}
+use Rattle.record.specs.Order.{Visibility, sharesOf, interestOf, minimumOf, priceOf}
+use Rattle.record.specs.Trading.{isOppositeOf}
+use Rattle.book.specs.Sound.{rising}
+use Rattle.matching.specs.declared.Algorithm.{Algorithm}
+use Rattle.matching.specs.declared.Algorithm.the-variants.{PriceTime, ProRata, PriceSetter}
+use Rattle.matching.specs.declared.Paragraph.{Paragraph}
+use Rattle.matching.specs.declared.Paragraph.the-variants.{Two, Three, Four, Five, Six}
+use Rattle.matching.specs.Paragraph.{Group, groupOf, inGroup, partOf, paragraphs, proRataShares, allot}
+use Rattle.matching.specs.Take.{used, allocationAt, allocationsAt, allocationsOver}
+use Rattle.matching.proofs.Entries.{shareIn, lookup, Aligned, aligned-append}
+
+-- all that an order has of a visibility
+abbrev pub wholePart : Visibility → Order → Part
+wholePart v o = record { number = o .number; size = sharesOf v (interestOf o); minimum = minimumOf (o .kind); setter = o .setter }
+
+module _ (t : Taker) (price : ℕ) (g : Group) where
+  -- the order stands in the group at the price
+  abbrev pub stands : Order → Bool
+  stands o = isOppositeOf t o && eqb (priceOf o) price && inGroup g o
+
+  -- an order that stands there has all its shares of the group's visibility in it
+  pub part-in : (o : Order) → stands o ≡ true → partOf t price g o ≡ wholePart (g .visibility) o
+  unfolding partOf
+  part-in o e = rw e
+
+  -- any other order has a part of size 0
+  pub part-out : (o : Order) → stands o ≡ false → partOf t price g o ≡ noPart (o .number)
+  unfolding partOf
+  part-out o e = rw e
+
+  -- a part has its order's number
+  pub part-number : (o : Order) → partOf t price g o .number ≡ o .number
+  part-number o = go (stands o) refl
+    where
+      go : (b : Bool) → stands o ≡ b → partOf t price g o .number ≡ o .number
+      go true e = rw (part-in o e)
+      go false e = rw (part-out o e)
+
+  -- a part's size: the order's shares of the group's visibility, where it stands there
+  pub part-size : (o : Order) → partOf t price g o .size ≡ orZero (stands o) (sharesOf (g .visibility) (interestOf o))
+  part-size o = go (stands o) refl
+    where
+      go : (b : Bool) → stands o ≡ b → partOf t price g o .size ≡ orZero b (sharesOf (g .visibility) (interestOf o))
+      go true e = rw (part-in o e)
+      go false e = rw (part-out o e)
+
+  -- the parts' numbers rise as the orders' do
+  pub parts-rising : (m : ℕ) (os : List Order) → rising m os ≡ true → Rising m (map (partOf t price g) os)
+  parts-rising m [] r = tt
+  parts-rising m (o ∷ os) r =
+      let a = and-true (ltb m (o .number)) (rising (o .number) os) r in
+      rw (part-number o) (ltb-true m (o .number) (a .0), parts-rising (o .number) os (a .1))
+
+-- what a round gives a part
+unfoldable pub roundShare : (Part → Part → Bool) → ℕ → List Part → Part → ℕ
+roundShare before left ps p = goesRound partSize left (ranked before ps) (p .number)
+
+-- what pro rata gives a part, with a way to share in paragraph 2
+abbrev pub proRataShare : (ℕ → ℕ → List Part → Part → ℕ) → ℕ → Paragraph → ℕ → List Part → Part → ℕ
+proRataShare share lot Two left ps = share lot (divided left ps) ps
+proRataShare share lot Three left ps = roundShare larger left ps
+proRataShare share lot Four left ps = lotShare lot (divided left ps) ps
+proRataShare share lot Five left ps = roundShare smallerMinimum left ps
+proRataShare share lot Six left ps = roundShare larger left ps
+
+-- what a paragraph gives a part of the shares left
+abbrev pub allotShare : ℕ → Algorithm → Paragraph → ℕ → List Part → Part → ℕ
+allotShare lot PriceTime g left ps = roundShare byTime left ps
+allotShare lot ProRata g left ps = proRataShare lotShare lot g left ps
+allotShare lot PriceSetter g left ps = proRataShare setterShare lot g left ps
+
+round-map : (before : Part → Part → Bool) (left : ℕ) (ps : List Part) → round before partSize left ps ≡ map (roundShare before left ps) ps
+unfolding round roundShare
+round-map before left ps = refl
+
+pro-rata-map : (sharing : ℕ → ℕ → List Part → List ℕ) (share : ℕ → ℕ → List Part → Part → ℕ)
+    → ((lot q : ℕ) (ps : List Part) → sharing lot q ps ≡ map (share lot q ps) ps) → (lot : ℕ) (g : Paragraph) (left : ℕ) (ps : List Part)
+    → proRataShares sharing lot g left ps ≡ map (proRataShare share lot g left ps) ps
+pro-rata-map sharing share h lot Two left ps = h lot (divided left ps) ps
+pro-rata-map sharing share h lot Three left ps = round-map larger left ps
+pro-rata-map sharing share h lot Four left ps = lots-map lot (divided left ps) ps
+pro-rata-map sharing share h lot Five left ps = round-map smallerMinimum left ps
+pro-rata-map sharing share h lot Six left ps = round-map larger left ps
+
+-- a paragraph allots part by part
+pub allot-map : (lot : ℕ) (alg : Algorithm) (g : Paragraph) (left : ℕ) (ps : List Part) → allot lot alg g left ps ≡ map (allotShare lot alg g left ps) ps
+allot-map lot PriceTime g left ps = round-map byTime left ps
+allot-map lot ProRata g left ps = pro-rata-map lotSharing lotShare lots-map lot g left ps
+allot-map lot PriceSetter g left ps = pro-rata-map setterSharing setterShare setter-map lot g left ps
+
+module _ (m : ℕ) (ps : List Part) (r : Rising m ps) (p : Part) (i : List·Memᴰ p ps) (z : p .size ≡ 0) where
+  round-none : (before : Part → Part → Bool) (left : ℕ) → roundShare before left ps p ≡ 0
+  unfolding roundShare
+  round-none before left =
+      let t = turn partSize p (ranked before ps) (differ-ranked before m ps r) (mem-ranked before p ps i) left in
+      omega (arith, t .took, taking-le partSize (t .met) p .1)
+
+  pro-rata-none : (share : ℕ → ℕ → List Part → Part → ℕ) → ((lot q : ℕ) → share lot q ps p ≡ 0) → (lot : ℕ) (g : Paragraph) (left : ℕ)
+      → proRataShare share lot g left ps p ≡ 0
+  pro-rata-none share h lot Two left = h lot (divided left ps)
+  pro-rata-none share h lot Three left = round-none larger left
+  pro-rata-none share h lot Four left = lots-zero lot (divided left ps) ps m r p i z
+  pro-rata-none share h lot Five left = round-none smallerMinimum left
+  pro-rata-none share h lot Six left = round-none larger left
+
+  -- a part that has no size gets nothing
+  pub allot-none : (lot : ℕ) (alg : Algorithm) (g : Paragraph) (left : ℕ) → allotShare lot alg g left ps p ≡ 0
+  allot-none lot PriceTime g left = round-none byTime left
+  allot-none lot ProRata g left = pro-rata-none lotShare (λ k q. lots-zero k q ps m r p i z) lot g left
+  allot-none lot PriceSetter g left = pro-rata-none setterShare (λ k q. setters-zero k q m ps r p i z) lot g left
+
+module _ (lot : ℕ) (alg : Algorithm) (t : Taker) (os : List Order) where
+  -- the parts of a paragraph at a price
+  abbrev pub partsAt : ℕ → Paragraph → List Part
+  partsAt price g = map (partOf t price (groupOf lot alg g)) os
+
+  allotted : (price : ℕ) (g : Paragraph) (left : ℕ)
+      → allocationAt lot alg t os price g left .allotment ≡ map (allotShare lot alg g left (partsAt price g)) (partsAt price g)
+  unfolding allocationAt
+  allotted price g left = allot-map lot alg g left (partsAt price g)
+
+  aligned-at : (price : ℕ) (gs : List Paragraph) (left : ℕ) → Aligned os (allocationsAt lot alg t os price gs left)
+  unfolding allocationsAt
+  aligned-at price [] left = tt
+  aligned-at price (g ∷ gs) left =
+      (rw (allotted price g left, length-map, length-map), aligned-at price gs (left - used (allocationAt lot alg t os price g left)))
+
+  -- the allocations over any price levels have one number for each order
+  pub aligned-over : (prices : List ℕ) (left : ℕ) → Aligned os (allocationsOver lot alg t os prices left)
+  unfolding allocationsOver
+  aligned-over [] left = tt
+  aligned-over (price ∷ prices) left =
+      let level = allocationsAt lot alg t os price paragraphs left in
+      aligned-append os level (allocationsOver lot alg t os prices (left - total used level)) (aligned-at price paragraphs left)
+      (aligned-over prices (left - total used level))
+
+  module _ (rise : rising 0 os ≡ true) (price : ℕ) (g : Paragraph) (left : ℕ) (o : Order) (i : List·Memᴰ o os) where
+    -- an order's entry is what its part gets
+    pub entry-is : shareIn (o .number) os (allocationAt lot alg t os price g left .allotment)
+        ≡ allotShare lot alg g left (partsAt price g) (partOf t price (groupOf lot alg g) o)
+    entry-is = rw (allotted price g left) (lookup (allotShare lot alg g left (partsAt price g)) (partOf t price (groupOf lot alg g)) 0 os rise o i)
+
+    -- an order whose part has no size gets nothing
+    pub entry-none : partOf t price (groupOf lot alg g) o .size ≡ 0 → shareIn (o .number) os (allocationAt lot alg t os price g left .allotment) ≡ 0
+    entry-none z =
+        let group = groupOf lot alg g in
+        entry-is ∙ allot-none 0 (partsAt price g) (parts-rising t price group 0 os rise) (partOf t price group o) (Memᴰ·map (partOf t price group) i) z lot alg g left

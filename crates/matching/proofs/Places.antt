@@ -1,0 +1,115 @@
+-- Where an order's shares stand: under each algorithm those of one visibility stand in the group of exactly one paragraph.
+use Prim.Native.Nat.{ℕ, _<_}
+use mathlib.Core.Path.{_≡_, refl, sym, ap, _∙_}
+use mathlib.Core.Logic.{_⊎_, inl, inr}
+use mathlib.Core.Bool.{Bool, true, false, not, _&&_, false≢true}
+use mathlib.Core.List.{List, [], _∷_}
+use lib.Dec.{leb, ltb, eqb}
+use borrow.Author.Tests.{leb-true, leb-false, le-ltb, lt-ltb}
+use Rattle.units.proofs.Members.{Every}
+use Rattle.record.specs.Order.{Visibility, shown, hidden, sharesOf, onlyOf}
+use Rattle.matching.specs.declared.Algorithm.{Algorithm}
+use Rattle.matching.specs.declared.Algorithm.the-variants.{PriceTime, ProRata, PriceSetter}
+use Rattle.matching.specs.declared.Paragraph.{Paragraph}
+use Rattle.matching.specs.declared.Paragraph.the-variants.{Two, Three, Four, Five, Six}
+use Rattle.matching.specs.Paragraph.{paragraphs, paragraphNumber, Group, groupOf, proRataGroup}
+
+abbrev pub sameVisibility : Visibility → Visibility → Bool
+sameVisibility shown shown = true
+sameVisibility shown hidden = false
+sameVisibility hidden shown = false
+sameVisibility hidden hidden = true
+
+pub same-visibility : (v w : Visibility) → sameVisibility v w ≡ true → v ≡ w
+same-visibility shown shown e = refl
+same-visibility shown hidden e = absurd (false≢true e)
+same-visibility hidden shown e = absurd (false≢true e)
+same-visibility hidden hidden e = refl
+
+-- shares of one visibility are none of the other
+pub own-shares : (v : Visibility) (n : ℕ) → sharesOf v (onlyOf v n) ≡ n
+own-shares shown n = refl
+own-shares hidden n = refl
+
+pub other-shares : (v w : Visibility) (n : ℕ) → sameVisibility v w ≡ false → sharesOf v (onlyOf w n) ≡ 0
+other-shares shown shown n e = absurd (false≢true (sym e))
+other-shares shown hidden n e = refl
+other-shares hidden shown n e = refl
+other-shares hidden hidden n e = absurd (false≢true (sym e))
+
+-- n shares of a visibility, of a minimum quantity order or not, stand in a group
+abbrev pub standsIn : Visibility → Bool → ℕ → Group → Bool
+standsIn v m n g = sameVisibility v (g .visibility) && (ltb 0 n && g .holds m n)
+
+-- they pass its test, if there are any
+abbrev passes : Visibility → Bool → ℕ → Group → Bool
+passes v m n g = sameVisibility v (g .visibility) && g .holds m n
+
+-- g is another paragraph than x
+abbrev pub other : Paragraph → Paragraph → Bool
+other g x = not (eqb (paragraphNumber g) (paragraphNumber x))
+
+-- a test that exactly one paragraph passes
+pub record One (t : Paragraph → Bool) : Type 0 where
+  pub place : Paragraph
+  pub inside : t place ≡ true
+  pub outside : (g : Paragraph) → other g place ≡ true → t g ≡ false
+
+one-of : {s t : Paragraph → Bool} → ((g : Paragraph) → s g ≡ t g) → One s → One t
+one-of h o = record { place = o .place; inside = sym (h (o .place)) ∙ o .inside; outside = λ g n. sym (h g) ∙ o .outside g n }
+
+time-one : (v : Visibility) (m : Bool) (n lot : ℕ) → One (λ g. passes v m n (groupOf lot PriceTime g))
+time-one shown m n lot = record { place = Two; inside = refl; outside = elim [ Two ↦ λ h. absurd (false≢true h) | Three ↦ λ h. refl | Four ↦ λ h. refl | Five ↦ λ h. refl | Six ↦ λ h. refl ] }
+time-one hidden m n lot = record { place = Three; inside = refl; outside = elim [ Two ↦ λ h. refl | Three ↦ λ h. absurd (false≢true h) | Four ↦ λ h. refl | Five ↦ λ h. refl | Six ↦ λ h. refl ] }
+
+-- where a lot or more stands under pro rata, and where less
+lotTest : Visibility → Bool → Bool → Paragraph → Bool
+lotTest v m lots Two = sameVisibility v shown && lots
+lotTest v m lots Three = sameVisibility v shown && not lots
+lotTest v m lots Four = sameVisibility v hidden && (not m && lots)
+lotTest v m lots Five = sameVisibility v hidden && m
+lotTest v m lots Six = sameVisibility v hidden && (not m && not lots)
+
+lot-one : (v : Visibility) (m lots : Bool) → One (lotTest v m lots)
+unfolding lotTest
+lot-one shown m true = record { place = Two; inside = refl; outside = elim [ Two ↦ λ h. absurd (false≢true h) | Three ↦ λ h. refl | Four ↦ λ h. refl | Five ↦ λ h. refl | Six ↦ λ h. refl ] }
+lot-one shown m false = record { place = Three; inside = refl; outside = elim [ Two ↦ λ h. refl | Three ↦ λ h. absurd (false≢true h) | Four ↦ λ h. refl | Five ↦ λ h. refl | Six ↦ λ h. refl ] }
+lot-one hidden true lots = record { place = Five; inside = refl; outside = elim [ Two ↦ λ h. refl | Three ↦ λ h. refl | Four ↦ λ h. refl | Five ↦ λ h. absurd (false≢true h) | Six ↦ λ h. refl ] }
+lot-one hidden false true = record { place = Four; inside = refl; outside = elim [ Two ↦ λ h. refl | Three ↦ λ h. refl | Four ↦ λ h. absurd (false≢true h) | Five ↦ λ h. refl | Six ↦ λ h. refl ] }
+lot-one hidden false false = record { place = Six; inside = refl; outside = elim [ Two ↦ λ h. refl | Three ↦ λ h. refl | Four ↦ λ h. refl | Five ↦ λ h. refl | Six ↦ λ h. absurd (false≢true h) ] }
+
+below : (lot n : ℕ) → not (leb lot n) ≡ ltb n lot
+below lot n = go (leb lot n) refl
+  where
+    go : (b : Bool) → leb lot n ≡ b → not b ≡ ltb n lot
+    go true e = sym (le-ltb n lot (leb-true lot n e))
+    go false e = sym (lt-ltb n lot (leb-false lot n e))
+
+lot-tests : (v : Visibility) (m : Bool) (n lot : ℕ) (g : Paragraph) → lotTest v m (leb lot n) g ≡ passes v m n (proRataGroup lot g)
+unfolding lotTest
+lot-tests v m n lot Two = refl
+lot-tests v m n lot Three = ap (λ b. sameVisibility v shown && b) (below lot n)
+lot-tests v m n lot Four = refl
+lot-tests v m n lot Five = refl
+lot-tests v m n lot Six = ap (λ b. sameVisibility v hidden && (not m && b)) (below lot n)
+
+passing-one : (lot : ℕ) (alg : Algorithm) (v : Visibility) (m : Bool) (n : ℕ) → One (λ g. passes v m n (groupOf lot alg g))
+passing-one lot PriceTime v m n = time-one v m n lot
+passing-one lot ProRata v m n = one-of (lot-tests v m n lot) (lot-one v m (leb lot n))
+passing-one lot PriceSetter v m n = one-of (lot-tests v m n lot) (lot-one v m (leb lot n))
+
+-- shares of a visibility stand in one paragraph
+pub standing-one : (lot : ℕ) (alg : Algorithm) (v : Visibility) (m : Bool) (n : ℕ) → 0 < n → One (λ g. standsIn v m n (groupOf lot alg g))
+standing-one lot alg v m n h = one-of (λ g. rw (lt-ltb 0 n h)) (passing-one lot alg v m n)
+
+-- a paragraph stands in a list once
+abbrev pub Once : Paragraph → List Paragraph → Type 0
+Once x [] = ⊥
+Once x (g ∷ gs) = ((g ≡ x) × Every (λ h. other h x ≡ true) gs) ⊎ ((other g x ≡ true) × Once x gs)
+
+pub paragraphs-once : (g : Paragraph) → Once g paragraphs
+paragraphs-once Two = inl (refl, (refl, (refl, (refl, (refl, tt)))))
+paragraphs-once Three = inr (refl, inl (refl, (refl, (refl, (refl, tt)))))
+paragraphs-once Four = inr (refl, inr (refl, inl (refl, (refl, (refl, tt)))))
+paragraphs-once Five = inr (refl, inr (refl, inr (refl, inl (refl, (refl, tt)))))
+paragraphs-once Six = inr (refl, inr (refl, inr (refl, inr (refl, inl (refl, tt)))))

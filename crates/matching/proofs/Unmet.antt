@@ -1,0 +1,101 @@
+-- The last two clauses of the fairness demand: what is left over, and that it is left over only before minimums above it.
+use Prim.Native.Nat.{ℕ, _+_, _-_, _≤_, _<_}
+use mathlib.Core.Path.{_≡_, refl, sym, ap, _∙_}
+use mathlib.Core.Bool.{true}
+use mathlib.Core.List.{List, List·Memᴰ}
+use native.Mathlib.Omega.{arith}
+use lib.Dec.{T}
+use borrow.Author.Tests.{ltb-true}
+use Rattle.units.specs.Lists.{total, zipWith}
+use Rattle.units.proofs.Tests.{and-true, T-true, true-T}
+use Rattle.units.proofs.Members.{filter-member}
+use Rattle.sharing.proofs.Filled.{Met, full, unmet}
+use Rattle.record.specs.declared.order.Kind.{Kind}
+use Rattle.record.specs.declared.order.Kind.the-variants.{Displayed, NonDisplayed, MinimumQuantity}
+use Rattle.record.specs.declared.order.Order.{Order}
+use Rattle.record.specs.Order.{Visibility, shown, hidden, Interest, sharesOf, interestBy, interestOf, sizeFrom, settled, isResting, isMinimumQuantity, minimumOf, priceOf, sizeOf}
+use Rattle.record.specs.Trading.{isOppositeOf, withinLimit, isTradable}
+use Rattle.record.proofs.Settling.{settled-side, settled-price, settled-size, settled-minimum, settled-minimum-quantity}
+use Rattle.book.proofs.Soundness.{OrdersSound, order-shares}
+use Rattle.matching.specs.declared.Algorithm.{Algorithm}
+use Rattle.matching.specs.declared.incoming.Incoming.{Incoming}
+use Rattle.matching.specs.Levels.{priceLevels}
+use Rattle.matching.specs.Take.{Allocation, used, allocations, allocationsOver, lossesOf, outcome}
+use Rattle.matching.specs.Fairness.{executedShares}
+use Rattle.matching.proofs.Levels.{levels-sorted, levels-have}
+use Rattle.matching.proofs.Entries.{executed-all}
+use Rattle.matching.proofs.Parts.{wholePart, aligned-over}
+use Rattle.matching.proofs.Allotting.{allotment-filled}
+use Rattle.matching.proofs.Leftover.{all-within, all-met}
+use Rattle.matching.proofs.Losses.{zip-beside, beside-member, loss-shares}
+
+-- the visibility that all of a kind's shares have
+visibilityOf : Kind → Visibility
+visibilityOf Displayed = shown
+visibilityOf NonDisplayed = hidden
+visibilityOf (MinimumQuantity m) = hidden
+
+whole-size : (o : Order) → sharesOf (visibilityOf (o .kind)) (interestOf o) ≡ sizeOf o
+unfolding visibilityOf
+whole-size o = go (o .kind)
+  where
+    go : (k : Kind) → sharesOf (visibilityOf k) (interestBy k (sizeOf o)) ≡ sizeOf o
+    go Displayed = refl
+    go NonDisplayed = refl
+    go (MinimumQuantity m) = refl
+
+whole-loss : (k : Kind) (l : Interest) → sharesOf (visibilityOf k) l ≡ sizeFrom k l
+unfolding visibilityOf
+whole-loss Displayed l = refl
+whole-loss NonDisplayed l = refl
+whole-loss (MinimumQuantity m) l = refl
+
+has-minimum : (k : Kind) (n : ℕ) → n < minimumOf k → isMinimumQuantity k ≡ true
+has-minimum Displayed n h = absurd (omega arith)
+has-minimum NonDisplayed n h = absurd (omega arith)
+has-minimum (MinimumQuantity m) n h = refl
+
+-- an order that rests after it was filled or passed over was passed over, and keeps its minimum
+rests-unmet : (o : Order) (l : Interest) (r : ℕ) → minimumOf (o .kind) ≤ sizeOf o
+    → Met r (wholePart (visibilityOf (o .kind)) o) (sharesOf (visibilityOf (o .kind)) l) → isResting (settled l o) ≡ true
+    → T (isMinimumQuantity (settled l o .kind)) × (r < minimumOf (settled l o .kind))
+rests-unmet o l r h (full e) k =
+    absurd (omega (arith, ltb-true 0 (sizeOf (settled l o)) k, settled-size l o, whole-size o, whole-loss (o .kind) l))
+rests-unmet o l r h (unmet e u) k = (
+  true-T (isMinimumQuantity (settled l o .kind)) (settled-minimum-quantity l o ∙ has-minimum (o .kind) r u),
+  omega (arith, settled-minimum l o, settled-size l o, whole-loss (o .kind) l),
+)
+
+module _ (lot : ℕ) (hl : 0 < lot) (alg : Algorithm) (i : Incoming) (os : List Order) (sound : OrdersSound os) where
+  abbrev rows : List Allocation
+  rows = allocationsOver lot alg (i .taker) os (priceLevels (i .taker) os) (i .size .0)
+
+  -- no more than the incoming size is used
+  within : total used rows ≤ i .size .0
+  within = all-within lot alg (i .taker) os (sound .rise) (λ price g left. allotment-filled lot hl (i .taker) os (sound .rise) (sound .setters) price left alg g)
+      (priceLevels (i .taker) os) (i .size .0)
+
+  pub left-over : outcome lot alg i os .left + total executedShares (outcome lot alg i os .executions) ≡ i .size .0
+  unfolding outcome allocations
+  left-over = omega (arith, within, executed-all os rows (aligned-over lot alg (i .taker) os (priceLevels (i .taker) os) (i .size .0)))
+
+  pub left-unmet : 0 < outcome lot alg i os .left → (o : Order) → List·Memᴰ o (outcome lot alg i os .orders) → T (isTradable (i .taker) o)
+      → T (isMinimumQuantity (o .kind)) × (outcome lot alg i os .left < minimumOf (o .kind))
+  unfolding outcome allocations
+  left-unmet h y m t =
+      let f = filter-member isResting (zipWith settled (lossesOf os rows) os) y m in
+      let z = zip-beside settled (lossesOf os rows) os y (f .0) in
+      let o = z .0 in
+      let l = z .1 in
+      let k = beside-member (z .2) in
+      let e : isTradable (i .taker) o ≡ true = sym (same o l) ∙ (ap (isTradable (i .taker)) (sym (z .3)) ∙ T-true (isTradable (i .taker) y) t) in
+      let u = and-true (isOppositeOf (i .taker) o) (withinLimit (i .taker .side) (i .taker .limit .0) (priceOf o)) e in
+      let v = visibilityOf (o .kind) in
+      let n = all-met lot alg (i .taker) os (sound .rise)
+      (λ price g left. allotment-filled lot hl (i .taker) os (sound .rise) (sound .setters) price left alg g) v o k (u .0) (omega (arith, whole-size o, order-shares os sound o k .1))
+      (priceLevels (i .taker) os) (levels-sorted (i .taker) os) (levels-have (i .taker) os o k e) (i .size .0) (omega arith) in
+      let b : Met (i .size .0 - total used rows) (wholePart v o) (sharesOf v l) = rw (loss-shares os (sound .rise) rows (z .2) v) n in
+      rw (z .3) (rests-unmet o l (i .size .0 - total used rows) (order-shares os sound o k .0) b (ap isResting (sym (z .3)) ∙ f .1))
+    where
+      same : (o : Order) (l : Interest) → isTradable (i .taker) (settled l o) ≡ isTradable (i .taker) o
+      same o l = rw (settled-side l o, settled-price l o)

@@ -1,0 +1,136 @@
+-- Worked values of take on lists of orders, computed by the checker: a take through two prices, and one through all five paragraphs.
+use Prim.Native.Nat.{ℕ}
+use mathlib.Core.Path.{_≡_, refl}
+use mathlib.Core.Bool.{Bool, true, false, _&&_}
+use mathlib.Core.List.{List, [], _∷_, map}
+use native.Mathlib.Omega.{arith}
+use lib.Dec.{eqb}
+use Rattle.units.specs.Lists.{all, sameNumbers}
+use Rattle.sharing.specs.Round.{goesRound, round}
+use Rattle.sharing.specs.Lots.{lotSharing}
+use Rattle.sharing.specs.Setter.{besideSetter, setterSharing}
+use Rattle.record.specs.declared.order.Side.the-variants.{Buy, Sell}
+use Rattle.record.specs.declared.order.Kind.{Kind}
+use Rattle.record.specs.declared.order.Kind.the-variants.{Displayed, NonDisplayed, MinimumQuantity}
+use Rattle.record.specs.declared.order.Order.{Order}
+use Rattle.record.specs.Order.{sizeOf, withInterest, settled}
+use Rattle.matching.specs.declared.Algorithm.the-variants.{PriceTime, ProRata, PriceSetter}
+use Rattle.matching.specs.declared.incoming.Incoming.{Incoming}
+use Rattle.matching.specs.Levels.{priceLevels}
+use Rattle.matching.specs.Paragraph.{partOf}
+use Rattle.matching.specs.Take.{allocationAt, allocationsAt, allocationsOver, allocations, executionsOf, lossesOf, Outcome, outcome}
+use Rattle.matching.specs.Fairness.{LotBounds}
+
+sell : Kind → ℕ → ℕ → ℕ → Order
+sell kind n price size = record {
+  side = Sell;
+  kind = kind;
+  number = n;
+  price = record { 0 = price };
+  size = record { 0 = size };
+  setter = false;
+}
+
+buy : ℕ → ℕ → Incoming
+buy limit size = record { taker = record { side = Buy; limit = record { 0 = limit } }; size = record { 0 = size } }
+
+resting : ℕ → ℕ → Order
+resting n price = record {
+  side = Buy;
+  kind = Displayed;
+  number = n;
+  price = record { 0 = price };
+  size = record { 0 = 300 };
+  setter = false;
+}
+
+selling : ℕ → ℕ → Incoming
+selling limit size = record { taker = record { side = Sell; limit = record { 0 = limit } }; size = record { 0 = size } }
+
+-- an outcome's numbers: of the executions, their orders, prices, shares and paragraphs; the shares left; of the orders that rest, their
+-- numbers and sizes
+record Due : Type 0 where
+  orders : List ℕ
+  prices : List ℕ
+  shares : List ℕ
+  paragraphs : List ℕ
+  left : ℕ
+  rest : List ℕ
+  sizes : List ℕ
+
+holds : Outcome → Due → Bool
+holds o d =
+    sameNumbers (map (λ e. e .number) (o .executions)) (d .orders)
+    && sameNumbers (map (λ e. e .price .0) (o .executions)) (d .prices)
+    && sameNumbers (map (λ e. e .shares .0) (o .executions)) (d .shares)
+    && sameNumbers (map (λ e. e .paragraph) (o .executions)) (d .paragraphs)
+    && eqb (o .left) (d .left)
+    && sameNumbers (map (λ r. r .number) (o .orders)) (d .rest)
+    && sameNumbers (map sizeOf (o .orders)) (d .sizes)
+
+twoPrices : List Order
+twoPrices = sell Displayed 1 100100 300 ∷ sell Displayed 2 100000 200 ∷ sell Displayed 3 100200 100 ∷ []
+
+everyKind : List Order
+everyKind =
+    sell Displayed 1 100000 99 ∷ sell NonDisplayed 2 100000 50 ∷ sell (MinimumQuantity (record { 0 = 150 })) 3 100000 200 ∷
+    sell NonDisplayed 4 100000 300 ∷ sell Displayed 5 100000 100 ∷ []
+
+values : List Bool
+values =
+    -- best price first, and nothing beyond the limit
+    holds (outcome 100 ProRata (buy 100100 400) twoPrices) (record {
+      orders = 2 ∷ 1 ∷ [];
+      prices = 100000 ∷ 100100 ∷ [];
+      shares = 200 ∷ 200 ∷ [];
+      paragraphs = 2 ∷ 2 ∷ [];
+      left = 0;
+      rest = 1 ∷ 3 ∷ [];
+      sizes = 100 ∷ 100 ∷ [];
+    }) ∷
+    holds (outcome 100 PriceSetter (buy 100100 999) twoPrices) (record {
+      orders = 2 ∷ 1 ∷ [];
+      prices = 100000 ∷ 100100 ∷ [];
+      shares = 200 ∷ 300 ∷ [];
+      paragraphs = 2 ∷ 2 ∷ [];
+      left = 499;
+      rest = 3 ∷ [];
+      sizes = 100 ∷ [];
+    }) ∷
+    -- for an incoming sell the highest price is the best
+    holds (outcome 100 PriceTime (selling 90000 350) (resting 1 100000 ∷ resting 2 100100 ∷ [])) (record {
+      orders = 2 ∷ 1 ∷ [];
+      prices = 100100 ∷ 100000 ∷ [];
+      shares = 300 ∷ 50 ∷ [];
+      paragraphs = 2 ∷ 2 ∷ [];
+      left = 0;
+      rest = 1 ∷ [];
+      sizes = 250 ∷ [];
+    }) ∷
+    -- through all paragraphs
+    holds (outcome 100 ProRata (buy 100000 1000) everyKind) (record {
+      orders = 5 ∷ 1 ∷ 4 ∷ 3 ∷ 2 ∷ [];
+      prices = 100000 ∷ 100000 ∷ 100000 ∷ 100000 ∷ 100000 ∷ [];
+      shares = 100 ∷ 99 ∷ 300 ∷ 200 ∷ 50 ∷ [];
+      paragraphs = 2 ∷ 3 ∷ 4 ∷ 5 ∷ 6 ∷ [];
+      left = 251;
+      rest = [];
+      sizes = [];
+    }) ∷
+    holds (outcome 100 PriceTime (buy 100000 700) everyKind) (record {
+      orders = 1 ∷ 5 ∷ 2 ∷ 3 ∷ 4 ∷ [];
+      prices = 100000 ∷ 100000 ∷ 100000 ∷ 100000 ∷ 100000 ∷ [];
+      shares = 99 ∷ 100 ∷ 50 ∷ 200 ∷ 251 ∷ [];
+      paragraphs = 2 ∷ 2 ∷ 3 ∷ 3 ∷ 3 ∷ [];
+      left = 0;
+      rest = 4 ∷ [];
+      sizes = 49 ∷ [];
+    }) ∷ []
+
+worked : all (λ b. b) values ≡ true
+unfolding values everyKind twoPrices holds resting selling sell buy outcome lossesOf executionsOf allocations allocationsOver allocationsAt allocationAt partOf priceLevels setterSharing besideSetter lotSharing round goesRound withInterest settled
+worked = refl
+
+-- the rule's first example keeps the lot bounds, and its largest order reaches the upper one: 500 and a lot of 1,200 shares divided
+reached : LotBounds 100 1200 1300 600 600
+reached = record { atLeast = omega arith; atMost = omega arith; withinSize = omega arith }

@@ -1,0 +1,7 @@
+pub mod Numbers
+pub mod Forms
+pub mod Rows
+pub mod Orders
+pub mod Records
+pub mod Settling
+pub mod Executions

@@ -1,0 +1,124 @@
+-- What a sound order has, and that its numbers fit its record.
+use Prim.Native.Nat.{ℕ, _≤_}
+use mathlib.Core.Path.{_≡_, refl, ap, _∙_}
+use mathlib.Core.Bool.{Bool, true, false, _&&_, _||_, false≢true}
+use mathlib.Core.List.{List}
+use native.Mathlib.Omega.{arith}
+use lib.ListN.{length}
+use lib.Dec.{eqb}
+use Rattle.units.specs.Lists.{inRange, orZero, isZero}
+use Rattle.units.proofs.Tests.{pick-least}
+use Rattle.units.proofs.Facts.{range-true, true-range}
+use Rattle.record.specs.declared.order.Side.{Side}
+use Rattle.record.specs.declared.order.Side.the-variants.{Buy, Sell}
+use Rattle.record.specs.declared.order.Kind.{Kind}
+use Rattle.record.specs.declared.order.Kind.the-variants.{Displayed, NonDisplayed, MinimumQuantity}
+use Rattle.record.specs.declared.order.Order.{Order}
+use Rattle.record.specs.Order.{sideNumber, kindNumber, minimumOf, isDisplayed, isMinimumQuantity, priceOf, sizeOf}
+use Rattle.record.specs.Order.{minimumInRange}
+use Rattle.record.specs.Record.{orderForm, numbersOf, orderOf, numbersSound}
+use Rattle.record.proofs.Numbers.{Fits}
+use Rattle.record.proofs.Rows.{numbers-order, passed, all-passed}
+
+-- a sound order: each of its numbers is in its range
+abbrev pub OrderSound : Order → Type 0
+OrderSound o = numbersSound (numbersOf o) ≡ true
+
+-- the order of a sound row of numbers is sound
+pub row-sound : (ns : List ℕ) → numbersSound ns ≡ true → length ns ≡ 10 → OrderSound (orderOf ns)
+row-sound ns e l = ap numbersSound (numbers-order ns e l) ∙ e
+
+-- what a sound order has, and all that it takes
+pub record OrderFacts (o : Order) : Type 0 where
+  pub number-least : 1 ≤ o .number
+  pub number-most : o .number ≤ 4294967295
+  pub price-least : 1 ≤ priceOf o
+  pub price-most : priceOf o ≤ 2000000000
+  pub size-least : 1 ≤ sizeOf o
+  pub size-most : sizeOf o ≤ 999999
+  pub minimum-least : isMinimumQuantity (o .kind) ≡ true → 1 ≤ minimumOf (o .kind)
+  pub minimum-most : minimumOf (o .kind) ≤ sizeOf o
+  pub marked : o .setter ≡ true → isDisplayed (o .kind) ≡ true
+
+minimum-facts : (k : Kind) (size : ℕ) → minimumInRange (kindNumber k) size (minimumOf k) ≡ true
+    → (isMinimumQuantity k ≡ true → 1 ≤ minimumOf k) × (minimumOf k ≤ size)
+minimum-facts Displayed size e = ((λ f. absurd (false≢true f)), omega arith)
+minimum-facts NonDisplayed size e = ((λ f. absurd (false≢true f)), omega arith)
+minimum-facts (MinimumQuantity m) size e = let r = range-true 1 size (m .0) e in ((λ f. r .0), r .1)
+
+facts-minimum : (k : Kind) (size : ℕ) → (isMinimumQuantity k ≡ true → 1 ≤ minimumOf k) → minimumOf k ≤ size
+    → minimumInRange (kindNumber k) size (minimumOf k) ≡ true
+facts-minimum Displayed size h l = refl
+facts-minimum NonDisplayed size h l = refl
+facts-minimum (MinimumQuantity m) size h l = true-range 1 size (m .0) (h refl) l
+
+mark-facts : (b : Bool) (k : Kind) → (isZero (orZero b 1) || (eqb (orZero b 1) 1 && eqb (kindNumber k) 1)) ≡ true → b ≡ true
+    → isDisplayed k ≡ true
+mark-facts true Displayed e f = refl
+mark-facts true NonDisplayed e f = absurd (false≢true e)
+mark-facts true (MinimumQuantity m) e f = absurd (false≢true e)
+mark-facts false k e f = absurd (false≢true f)
+
+facts-mark : (b : Bool) (k : Kind) → (b ≡ true → isDisplayed k ≡ true)
+    → (isZero (orZero b 1) || (eqb (orZero b 1) 1 && eqb (kindNumber k) 1)) ≡ true
+facts-mark true Displayed h = refl
+facts-mark true NonDisplayed h = absurd (false≢true (h refl))
+facts-mark true (MinimumQuantity m) h = absurd (false≢true (h refl))
+facts-mark false k h = refl
+
+side-range : (s : Side) → inRange 1 2 (sideNumber s) ≡ true
+side-range Buy = refl
+side-range Sell = refl
+
+kind-range : (k : Kind) → inRange 1 3 (kindNumber k) ≡ true
+kind-range Displayed = refl
+kind-range NonDisplayed = refl
+kind-range (MinimumQuantity m) = refl
+
+module _ (o : Order) where
+  -- a sound order has each of the facts
+  pub order-facts : OrderSound o → OrderFacts o
+  unfolding numbersOf
+  order-facts e =
+      let t = passed (numbersOf o) e .1 .1 in
+      let n = range-true 1 4294967295 (o .number) (t .0) in
+      let p = range-true 1 2000000000 (priceOf o) (t .1 .0) in
+      let z = range-true 1 999999 (sizeOf o) (t .1 .1 .0) in
+      let m = minimum-facts (o .kind) (sizeOf o) (t .1 .1 .1 .0) in
+      record {
+        number-least = n .0;
+        number-most = n .1;
+        price-least = p .0;
+        price-most = p .1;
+        size-least = z .0;
+        size-most = z .1;
+        minimum-least = m .0;
+        minimum-most = m .1;
+        marked = mark-facts (o .setter) (o .kind) (t .1 .1 .1 .1 .0);
+      }
+
+  -- an order with each of the facts is sound
+  pub facts-order : OrderFacts o → OrderSound o
+  unfolding numbersOf
+  facts-order h =
+      all-passed (numbersOf o)
+      (side-range (o .side))
+      (kind-range (o .kind))
+      (true-range 1 4294967295 (o .number) (h .number-least) (h .number-most))
+      (true-range 1 2000000000 (priceOf o) (h .price-least) (h .price-most))
+      (true-range 1 999999 (sizeOf o) (h .size-least) (h .size-most))
+      (facts-minimum (o .kind) (sizeOf o) (h .minimum-least) (h .minimum-most))
+      (facts-mark (o .setter) (o .kind) (h .marked))
+      refl
+      refl
+      refl
+
+  -- a sound order's numbers fit the record of an order
+  pub order-fits : OrderSound o → Fits (orderForm .widths) (numbersOf o)
+  unfolding numbersOf
+  order-fits e =
+      let h = order-facts e in
+      let s = range-true 1 2 (sideNumber (o .side)) (side-range (o .side)) in
+      let k = range-true 1 3 (kindNumber (o .kind)) (kind-range (o .kind)) in
+      let m = pick-least (o .setter) 1 in
+      (omega arith, (omega arith, (omega arith, (omega arith, (omega arith, (omega arith, (omega arith, (omega arith, (omega arith, (omega arith, tt))))))))))

@@ -1,0 +1,108 @@
+-- Orders as rows of numbers, both ways.
+use Prim.Native.Nat.{ℕ, zero, suc, _+_}
+use mathlib.Core.Path.{_≡_, refl, sym, ap, _∙_}
+use mathlib.Core.Bool.{Bool, true, false, _&&_, _||_, false≢true}
+use mathlib.Core.List.{List, [], _∷_}
+use native.Mathlib.Omega.{arith}
+use lib.ListN.{length, getD, drop, drop-of-length-le}
+use lib.Seq.{drop-cons}
+use lib.Dec.{eqb}
+use borrow.Author.Tests.{eqb-true}
+use Rattle.units.specs.Lists.{inRange, orZero, isZero}
+use Rattle.units.proofs.Members.{Every}
+use Rattle.units.proofs.Facts.{Given, chain-true, true-chain, range-true}
+use Rattle.record.specs.declared.order.Side.{Side}
+use Rattle.record.specs.declared.order.Side.the-variants.{Buy, Sell}
+use Rattle.record.specs.declared.order.Kind.{Kind}
+use Rattle.record.specs.declared.order.Kind.the-variants.{Displayed, NonDisplayed, MinimumQuantity}
+use Rattle.record.specs.declared.order.Order.{Order}
+use Rattle.record.specs.Order.{sideNumber, sideOf, kindNumber, kindOf, minimumOf}
+use Rattle.record.specs.Order.{numberInRange, priceInRange, sharesInRange, minimumInRange}
+use Rattle.record.specs.Record.{numbersOf, orderOf, numbersSound}
+
+-- a side and a kind are read back from their numbers
+side-of : (s : Side) → sideOf (sideNumber s) ≡ s
+side-of Buy = refl
+side-of Sell = refl
+
+kind-of : (k : Kind) → kindOf (kindNumber k) (minimumOf k) ≡ k
+kind-of Displayed = refl
+kind-of NonDisplayed = refl
+kind-of (MinimumQuantity m) = refl
+
+-- a setter mark is read back from its number
+pub setter-of : (b : Bool) → eqb (orZero b 1) 1 ≡ b
+setter-of true = refl
+setter-of false = refl
+
+-- an order is read back from its numbers
+pub order-numbers : (o : Order) → orderOf (numbersOf o) ≡ o
+unfolding orderOf numbersOf
+order-numbers o = rw (side-of (o .side), kind-of (o .kind), setter-of (o .setter))
+
+-- the numbers of a row from place k on, written out
+module _ (ns : List ℕ) where
+  abbrev cells : ℕ → ℕ → List ℕ
+  cells k zero = []
+  cells k (suc n) = getD ns k 0 ∷ cells (suc k) n
+
+  cells-are : (k n : ℕ) → length ns ≡ k + n → drop k ns ≡ cells k n
+  cells-are k zero e = drop-of-length-le ns {i = k} (omega arith)
+  cells-are k (suc n) e = drop-cons ns k 0 (omega arith) ∙ ap (λ l. getD ns k 0 ∷ l) (cells-are (suc k) n (omega arith))
+
+-- the tests of a sound row of numbers, behind that of its first
+abbrev pub tests : List ℕ → List Bool
+tests ns =
+    inRange 1 3 (getD ns 1 0) ∷
+    numberInRange (getD ns 2 0) ∷
+    priceInRange (getD ns 3 0) ∷
+    sharesInRange (getD ns 4 0) ∷
+    minimumInRange (getD ns 1 0) (getD ns 4 0) (getD ns 5 0) ∷
+    (isZero (getD ns 6 0) || (eqb (getD ns 6 0) 1 && eqb (getD ns 1 0) 1)) ∷
+    isZero (getD ns 7 0) ∷
+    isZero (getD ns 8 0) ∷
+    isZero (getD ns 9 0) ∷ []
+
+-- a sound row of numbers passes each test
+pub passed : (ns : List ℕ) → numbersSound ns ≡ true → Every (λ b. b ≡ true) (inRange 1 2 (getD ns 0 0) ∷ tests ns)
+unfolding numbersSound
+passed ns e = chain-true (inRange 1 2 (getD ns 0 0)) (tests ns) e
+
+-- a row of numbers that passes each test is sound
+pub all-passed : (ns : List ℕ) → inRange 1 2 (getD ns 0 0) ≡ true → Given (tests ns) (numbersSound ns ≡ true)
+unfolding numbersSound
+all-passed ns h = true-chain (inRange 1 2 (getD ns 0 0)) (tests ns) h
+
+-- the numbers of a side, a kind and a setter mark that were read are the numbers that they were read from
+number-side : (n : ℕ) → inRange 1 2 n ≡ true → sideNumber (sideOf n) ≡ n
+number-side zero e = absurd (omega (arith, range-true 1 2 0 e))
+number-side (suc zero) e = refl
+number-side (suc (suc zero)) e = refl
+number-side (suc (suc (suc n))) e = absurd (omega (arith, range-true 1 2 (suc (suc (suc n))) e))
+
+number-kind : (n m size : ℕ) → inRange 1 3 n ≡ true → minimumInRange n size m ≡ true
+    → (kindNumber (kindOf n m) ≡ n) × (minimumOf (kindOf n m) ≡ m)
+number-kind zero m size e f = absurd (omega (arith, range-true 1 3 0 e))
+number-kind (suc zero) m size e f = (refl, sym (eqb-true m 0 f))
+number-kind (suc (suc zero)) m size e f = (refl, sym (eqb-true m 0 f))
+number-kind (suc (suc (suc zero))) m size e f = (refl, refl)
+number-kind (suc (suc (suc (suc n)))) m size e f = absurd (omega (arith, range-true 1 3 (suc (suc (suc (suc n)))) e))
+
+number-setter : (n : ℕ) (b : Bool) → (isZero n || (eqb n 1 && b)) ≡ true → orZero (eqb n 1) 1 ≡ n
+number-setter n b e = go (eqb n 1) (isZero n) refl refl e
+  where
+    go : (c d : Bool) → eqb n 1 ≡ c → isZero n ≡ d → (d || (c && b)) ≡ true → orZero c 1 ≡ n
+    go true d p q e = sym (eqb-true n 1 p)
+    go false true p q e = sym (eqb-true n 0 q)
+    go false false p q e = absurd (false≢true e)
+
+-- a sound row of numbers is that of the order that is read from it
+pub numbers-order : (ns : List ℕ) → numbersSound ns ≡ true → length ns ≡ 10 → numbersOf (orderOf ns) ≡ ns
+unfolding numbersOf orderOf
+numbers-order ns e l =
+    let t = passed ns e in
+    let m = t .1 .1 .1 .1 .1 in
+    let z = m .1 .1 in
+    let k = number-kind (getD ns 1 0) (getD ns 5 0) (getD ns 4 0) (t .1 .0) (m .0) in
+    let c = rw (eqb-true (getD ns 7 0) 0 (z .0), eqb-true (getD ns 8 0) 0 (z .1 .0), eqb-true (getD ns 9 0) 0 (z .1 .1 .0)) at (cells-are ns 0 10 l) in
+    rw (number-side (getD ns 0 0) (t .0), k .0, k .1, number-setter (getD ns 6 0) (eqb (getD ns 1 0) 1) (m .1 .0)) (sym c)

@@ -1,0 +1,42 @@
+-- Numbers in bytes, of any width; and a form of record: a mark, and numbers of given widths behind it.
+use Prim.Native.Nat.{ℕ, zero, suc, _+_, _*_, _/_, _%_}
+use mathlib.Core.Bool.{Bool}
+use mathlib.Core.List.{List, [], _∷_, _++_}
+use lib.ListN.{length, take, drop}
+use Rattle.units.specs.Lists.{sum, sameNumbers}
+
+-- a stored number is unsigned, its least significant byte first
+abbrev pub toBytes : ℕ → ℕ → List ℕ
+toBytes zero n = []
+toBytes (suc width) n = n % 256 ∷ toBytes width (n / 256)
+
+abbrev pub fromBytes : List ℕ → ℕ
+fromBytes [] = 0
+fromBytes (b ∷ bs) = b + 256 * fromBytes bs
+
+-- numbers one behind the other, each in its width
+abbrev pub join : List ℕ → List ℕ → List ℕ
+join [] ns = []
+join (w ∷ ws) [] = []
+join (w ∷ ws) (n ∷ ns) = toBytes w n ++ join ws ns
+
+abbrev pub split : List ℕ → List ℕ → List ℕ
+split [] s = []
+split (w ∷ ws) s = fromBytes (take w s) ∷ split ws (drop w s)
+
+-- a form of record
+pub record Form : Type 0 where
+  pub mark : List ℕ
+  pub widths : List ℕ
+
+abbrev pub formBytes : Form → ℕ
+formBytes f = length (f .mark) + sum (f .widths)
+
+unfoldable pub encode : Form → List ℕ → List ℕ
+encode f ns = f .mark ++ join (f .widths) ns
+
+unfoldable pub decode : Form → List ℕ → List ℕ
+decode f s = split (f .widths) (drop (length (f .mark)) s)
+
+abbrev pub hasMark : Form → List ℕ → Bool
+hasMark f s = sameNumbers (take (length (f .mark)) s) (f .mark)

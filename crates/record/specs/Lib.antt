@@ -1,0 +1,6 @@
+pub mod Codec
+pub mod Order
+pub mod Trading
+pub mod Record
+pub mod Execution
+pub mod Examples

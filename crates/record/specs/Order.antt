@@ -1,0 +1,138 @@
+-- Orders: sides and kinds by number, ranges, the two kinds of interest in an order, and an order that loses shares.
+use Prim.Native.Nat.{ℕ, _+_, _-_, min}
+use mathlib.Core.Bool.{Bool, true, false, cond}
+use lib.Dec.{ltb, eqb}
+use Rattle.units.specs.Lists.{inRange}
+use Rattle.record.specs.declared.order.Side.{Side}
+use Rattle.record.specs.declared.order.Side.the-variants.{Buy, Sell}
+use Rattle.record.specs.declared.order.Kind.{Kind}
+use Rattle.record.specs.declared.order.Kind.the-variants.{Displayed, NonDisplayed, MinimumQuantity}
+use Rattle.record.specs.declared.order.Order.{Order}
+
+-- 1 buy, 2 sell
+abbrev pub sideNumber : Side → ℕ
+sideNumber Buy = 1
+sideNumber Sell = 2
+
+abbrev pub sideOf : ℕ → Side
+sideOf n = cond (eqb n 1) Buy Sell
+
+-- 1 displayed, 2 non-displayed, 3 minimum quantity
+abbrev pub kindNumber : Kind → ℕ
+kindNumber Displayed = 1
+kindNumber NonDisplayed = 2
+kindNumber (MinimumQuantity m) = 3
+
+abbrev pub kindOf : ℕ → ℕ → Kind
+kindOf n m = cond (eqb n 1) Displayed (cond (eqb n 2) NonDisplayed (MinimumQuantity (record { 0 = m })))
+
+-- only a minimum quantity order carries a minimum
+abbrev pub minimumOf : Kind → ℕ
+minimumOf Displayed = 0
+minimumOf NonDisplayed = 0
+minimumOf (MinimumQuantity m) = m .0
+
+abbrev pub isDisplayed : Kind → Bool
+isDisplayed Displayed = true
+isDisplayed NonDisplayed = false
+isDisplayed (MinimumQuantity m) = false
+
+abbrev pub isMinimumQuantity : Kind → Bool
+isMinimumQuantity Displayed = false
+isMinimumQuantity NonDisplayed = false
+isMinimumQuantity (MinimumQuantity m) = true
+
+abbrev pub priceOf : Order → ℕ
+priceOf o = o .price .0
+
+abbrev pub sizeOf : Order → ℕ
+sizeOf o = o .size .0
+
+-- an order number is 1 to 4,294,967,295
+abbrev pub numberInRange : ℕ → Bool
+numberInRange = inRange 1 4294967295
+
+-- a price is 1 to 2,000,000,000 ten-thousandths of a dollar
+abbrev pub priceInRange : ℕ → Bool
+priceInRange = inRange 1 2000000000
+
+-- a size is 1 to 999,999 shares
+abbrev pub sharesInRange : ℕ → Bool
+sharesInRange = inRange 1 999999
+
+-- a minimum is 1 to the size for kind 3, and zero for every other kind
+abbrev pub minimumInRange : ℕ → ℕ → ℕ → Bool
+minimumInRange kind size minimum = cond (eqb kind 3) (inRange 1 size minimum) (eqb minimum 0)
+
+-- The shares of an order are displayed interest or non-displayed interest, the rule's own terms.
+
+pub data Visibility : Type 0 where
+  shown hidden : Visibility
+
+pub record Interest : Type 0 where
+  pub displayed : ℕ
+  pub nonDisplayed : ℕ
+
+abbrev pub interest : ℕ → ℕ → Interest
+interest d n = record { displayed = d; nonDisplayed = n }
+
+abbrev pub noInterest : Interest
+noInterest = interest 0 0
+
+-- the shares of one visibility
+abbrev pub sharesOf : Visibility → Interest → ℕ
+sharesOf shown i = i .displayed
+sharesOf hidden i = i .nonDisplayed
+
+abbrev pub onlyOf : Visibility → ℕ → Interest
+onlyOf shown n = interest n 0
+onlyOf hidden n = interest 0 n
+
+abbrev pub allShares : Interest → ℕ
+allShares i = i .displayed + i .nonDisplayed
+
+abbrev pub together : Interest → Interest → Interest
+together a b = interest (a .displayed + b .displayed) (a .nonDisplayed + b .nonDisplayed)
+
+abbrev pub less : Interest → Interest → Interest
+less a b = interest (a .displayed - b .displayed) (a .nonDisplayed - b .nonDisplayed)
+
+-- which of its shares a kind displays
+abbrev pub interestBy : Kind → ℕ → Interest
+interestBy Displayed n = interest n 0
+interestBy NonDisplayed n = interest 0 n
+interestBy (MinimumQuantity m) n = interest 0 n
+
+abbrev pub interestOf : Order → Interest
+interestOf o = interestBy (o .kind) (sizeOf o)
+
+-- the size of an order of this kind that has this interest
+abbrev pub sizeFrom : Kind → Interest → ℕ
+sizeFrom Displayed i = i .displayed
+sizeFrom NonDisplayed i = i .nonDisplayed
+sizeFrom (MinimumQuantity m) i = i .nonDisplayed
+
+-- its kind: a minimum above the new size becomes the new size
+abbrev pub kindFrom : Kind → Interest → Kind
+kindFrom Displayed i = Displayed
+kindFrom NonDisplayed i = NonDisplayed
+kindFrom (MinimumQuantity m) i = MinimumQuantity (record { 0 = min (m .0) (i .nonDisplayed) })
+
+-- the order made anew of the interest that it still has
+unfoldable pub withInterest : Interest → Order → Order
+withInterest i o = record {
+  side = o .side;
+  kind = kindFrom (o .kind) i;
+  number = o .number;
+  price = o .price;
+  size = record { 0 = sizeFrom (o .kind) i };
+  setter = o .setter;
+}
+
+-- the order after it lost shares
+unfoldable pub settled : Interest → Order → Order
+settled loss o = withInterest (less (interestOf o) loss) o
+
+-- an order stays while it has shares
+abbrev pub isResting : Order → Bool
+isResting o = ltb 0 (sizeOf o)

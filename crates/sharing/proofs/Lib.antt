@@ -1,0 +1,10 @@
+pub mod Pointwise
+pub mod Ranks
+pub mod Turns
+pub mod Filled
+pub mod LotSharing
+pub mod SetterAndOthers
+pub mod SetterSharing
+pub mod Closed
+pub mod Thin
+pub mod Zeros

@@ -1,0 +1,5 @@
+pub mod Rank
+pub mod Round
+pub mod Lots
+pub mod Setter
+pub mod Examples

@@ -1,0 +1,4 @@
+pub mod Tests
+pub mod Totals
+pub mod Members
+pub mod Facts

@@ -1,0 +1,46 @@
+// Shares, round lots and prices, counted apart: one is never taken for another.
+ghost use mathlib.Core.Path.{_≡_};
+ghost use Prim.Native.Nat.{_-_, _*_, _/_, _^_, _<_, min};
+
+// A count of shares.
+pub struct Shares(pub u32);
+
+// A count of round lots.
+pub struct Lots(pub u32);
+
+// A price in ten-thousandths of a dollar.
+pub struct Price(pub u32);
+
+// The smaller of two counts.
+pub fn least(a: Shares, b: Shares) -> Shares
+    ensures { λ r. ⌜ r .0 ≡ min (a .0) (b .0) ⌝ }
+{
+    if a.0 <= b.0 { a } else { b }
+}
+
+// What b leaves of a; nothing where b is the larger.
+pub fn difference(a: Shares, b: Shares) -> Shares
+    ensures { λ r. ⌜ r .0 ≡ a .0 - b .0 ⌝ }
+{
+    if b.0 <= a.0 {
+        Shares(a.0 - b.0)
+    } else {
+        Shares(0)
+    }
+}
+
+// The whole lots in a count of shares.
+pub fn whole_lots(shares: Shares, lot: Shares) -> Lots
+    requires { ⌜ 0 < lot .0 ⌝ }
+    ensures { λ r. ⌜ r .0 ≡ shares .0 / lot .0 ⌝ }
+{
+    Lots(shares.0 / lot.0)
+}
+
+// The shares in a count of lots.
+pub fn shares_of(lots: Lots, lot: Shares) -> Shares
+    requires { ⌜ lots .0 * lot .0 < 2 ^ 32 ⌝ }
+    ensures { λ r. ⌜ r .0 ≡ lots .0 * lot .0 ⌝ }
+{
+    Shares(lots.0 * lot.0)
+}
