@@ -31,7 +31,9 @@ crossed = bookOf 3 (order Buy 7 100100 true ∷ order Sell 9 100000 true ∷ [])
 
 values : List Bool
 values =
+    -- 0 to 8,192 bytes
     sound [] ∷
+    sound (replicate 8192 0) ∷
     sound crossed ∷
     eqb (checkCall crossed .orders) 2 ∷
     -- a length that is no whole number of records; too many records; a byte behind the orders

@@ -2,16 +2,16 @@
 use Prim.Native.Nat.{ℕ, _+_, _<_}
 use mathlib.Core.Path.{_≡_, refl, ap, _∙_, subst⁻¹}
 use mathlib.Core.Bool.{Bool, true, false}
-use mathlib.Core.List.{List, [], _∷_, _++_, map, List·Memᴰ, List·Memᴰ·head, List·Memᴰ·tail}
+use mathlib.Core.List.{List, [], _∷_, map, List·Memᴰ, List·Memᴰ·head, List·Memᴰ·tail}
 use native.Mathlib.Omega.{arith}
 use native.Mathlib.Nat.{zero-add, add-zero}
 use lib.Dec.{ltb, eqb}
 use lib.ListN.{length}
 use borrow.Author.Tests.{ltb-true, ltb-false, eq-eqb, ne-eqb}
-use Rattle.units.specs.Lists.{consIf, flatMap, orZero, sum, total, zipWith}
+use Rattle.units.specs.Lists.{consIf, orZero, sum, total, zipWith}
 use Rattle.units.proofs.Tests.{and-true, pick-zero, pick-add}
 use Rattle.units.proofs.Members.{Every, every-member, every-weaken}
-use Rattle.units.proofs.Totals.{total-append, total-same}
+use Rattle.units.proofs.Totals.{total-same, total-flat}
 use Rattle.sharing.specs.Rank.{Part}
 use Rattle.sharing.proofs.Filled.{Each, more, each-map}
 use Rattle.record.specs.declared.order.Order.{Order}
@@ -80,11 +80,6 @@ entries-all b [] (k ∷ ks) h = absurd (omega arith)
 entries-all b (o ∷ os) [] h = absurd (omega arith)
 entries-all b (o ∷ os) (k ∷ ks) h = ap (λ n. orZero b k + n) (entries-all b os ks (omega arith)) ∙ pick-add b k (sum ks)
 
--- a total over lists one behind another
-total-flat : {A B : Type 0} (f : B → ℕ) (g : A → List B) (xs : List A) → total f (flatMap g xs) ≡ total (λ x. total f (g x)) xs
-total-flat f g [] = refl
-total-flat f g (x ∷ xs) = omega (arith, total-append f (g x) (flatMap g xs), total-flat f g xs)
-
 -- what an order gets is its entries in all allocations
 pub gets-entries : (os : List Order) (rows : List Allocation) (o : Order) → gets (executionsOf os rows) o ≡ total (λ a. shareIn (o .number) os (a .allotment)) rows
 unfolding gets executionsOf shareIn
@@ -95,11 +90,6 @@ gets-entries os rows o =
 -- every allotment has one number for each order
 abbrev pub Aligned : List Order → List Allocation → Type 0
 Aligned os rows = Every (λ a. length (a .allotment) ≡ length os) rows
-
--- one list of allocations behind another
-pub aligned-append : (os : List Order) (rows next : List Allocation) → Aligned os rows → Aligned os next → Aligned os (rows ++ next)
-aligned-append os [] next h k = k
-aligned-append os (a ∷ rows) next h k = (h .0, aligned-append os rows next (h .1) k)
 
 -- the shares executed at prices that pass a test are those that the allocations at such prices use
 pub executed-at : (w : ℕ → Bool) (os : List Order) (rows : List Allocation) → Aligned os rows

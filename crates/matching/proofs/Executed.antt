@@ -4,9 +4,9 @@ use mathlib.Core.Bool.{Bool, true, false}
 use mathlib.Core.List.{List, [], _∷_}
 use native.Mathlib.Omega.{arith}
 use lib.Dec.{ltb}
-use Rattle.units.specs.Lists.{consIf, flatMap, total}
+use Rattle.units.specs.Lists.{consIf, total}
 use Rattle.units.proofs.Totals.{total-member}
-use Rattle.units.proofs.Members.{Every, every-member, member-every, every-append}
+use Rattle.units.proofs.Members.{Every, every-member, member-every, every-append, every-flat}
 use Rattle.record.specs.declared.order.Order.{Order}
 use Rattle.record.specs.declared.order.Taker.{Taker}
 use Rattle.record.specs.Order.{priceOf}
@@ -22,11 +22,6 @@ use Rattle.matching.specs.Take.{used, allocationAt, allocationsAt, alloc
 use Rattle.matching.specs.Fairness.{executedShares}
 use Rattle.matching.proofs.Levels.{levels-every}
 use Rattle.matching.proofs.Unmet.{left-over}
-
--- lists one behind another
-every-flat : {A B : Type 0} (P : B → Type 0) (f : A → List B) (xs : List A) → Every (λ x. Every P (f x)) xs → Every P (flatMap f xs)
-every-flat P f [] h = tt
-every-flat P f (x ∷ xs) h = every-append P (f x) (flatMap f xs) (h .0) (every-flat P f xs (h .1))
 
 module _ (P : ℕ → Type 0) where
   -- allocations are at the prices of their levels

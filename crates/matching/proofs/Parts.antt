@@ -5,10 +5,11 @@ use mathlib.Core.Bool.{Bool, true, false, _&&_}
 use mathlib.Core.List.{List, [], _∷_, map, List·Memᴰ, Memᴰ·map}
 use native.Mathlib.Omega.{arith}
 use lib.Dec.{ltb, eqb}
-use lib.ListN.{length-map}
+use lib.ListN.{length, length-map}
 use borrow.Author.Tests.{ltb-true}
 use Rattle.units.specs.Lists.{orZero, total}
 use Rattle.units.proofs.Tests.{and-true}
+use Rattle.units.proofs.Members.{every-append}
 use Rattle.sharing.specs.Rank.{Part, noPart, partSize, byTime, larger, smallerMinimum, ranked}
 use Rattle.sharing.specs.Round.{goesRound, round}
 use Rattle.sharing.specs.Lots.{divided, lotSharing}
@@ -28,7 +29,7 @@ use Rattle.matching.specs.declared.Paragraph.{Paragraph}
 use Rattle.matching.specs.declared.Paragraph.the-variants.{Two, Three, Four, Five, Six}
 use Rattle.matching.specs.Paragraph.{Group, groupOf, inGroup, partOf, paragraphs, proRataShares, allot}
 use Rattle.matching.specs.Take.{used, allocationAt, allocationsAt, allocationsOver}
-use Rattle.matching.proofs.Entries.{shareIn, lookup, Aligned, aligned-append}
+use Rattle.matching.proofs.Entries.{shareIn, lookup, Aligned}
 
 -- all that an order has of a visibility
 abbrev pub wholePart : Visibility → Order → Part
@@ -152,7 +153,7 @@ module _ (lot : ℕ) (alg : Algorithm) (t : Taker) (os : List Order) where
   aligned-over [] left = tt
   aligned-over (price ∷ prices) left =
       let level = allocationsAt lot alg t os price paragraphs left in
-      aligned-append os level (allocationsOver lot alg t os prices (left - total used level)) (aligned-at price paragraphs left)
+      every-append (λ a. length (a .allotment) ≡ length os) level (allocationsOver lot alg t os prices (left - total used level)) (aligned-at price paragraphs left)
       (aligned-over prices (left - total used level))
 
   module _ (rise : rising 0 os ≡ true) (price : ℕ) (g : Paragraph) (left : ℕ) (o : Order) (i : List·Memᴰ o os) where

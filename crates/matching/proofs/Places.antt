@@ -2,11 +2,12 @@
 use Prim.Native.Nat.{ℕ, _<_}
 use mathlib.Core.Path.{_≡_, refl, sym, ap, _∙_}
 use mathlib.Core.Logic.{_⊎_, inl, inr}
-use mathlib.Core.Bool.{Bool, true, false, not, _&&_, false≢true}
-use mathlib.Core.List.{List, [], _∷_}
+use mathlib.Core.Bool.{Bool, true, false, not, _&&_, _||_, false≢true}
+use mathlib.Core.List.{List, [], _∷_, List·Memᴰ, List·Memᴰ·head, List·Memᴰ·tail}
 use lib.Dec.{leb, ltb, eqb}
-use borrow.Author.Tests.{leb-true, leb-false, le-ltb, lt-ltb}
-use Rattle.units.proofs.Members.{Every}
+use borrow.Author.Tests.{leb-true, leb-false, le-ltb, lt-ltb, not-true}
+use Rattle.units.specs.Lists.{all}
+use Rattle.units.proofs.Members.{Every, all-member}
 use Rattle.record.specs.Order.{Visibility, shown, hidden, sharesOf, onlyOf}
 use Rattle.matching.specs.declared.Algorithm.{Algorithm}
 use Rattle.matching.specs.declared.Algorithm.the-variants.{PriceTime, ProRata, PriceSetter}
@@ -58,9 +59,24 @@ pub record One (t : Paragraph → Bool) : Type 0 where
 one-of : {s t : Paragraph → Bool} → ((g : Paragraph) → s g ≡ t g) → One s → One t
 one-of h o = record { place = o .place; inside = sym (h (o .place)) ∙ o .inside; outside = λ g n. sym (h g) ∙ o .outside g n }
 
+every-paragraph : (g : Paragraph) → List·Memᴰ g paragraphs
+every-paragraph Two = List·Memᴰ·head refl
+every-paragraph Three = List·Memᴰ·tail (List·Memᴰ·head refl)
+every-paragraph Four = List·Memᴰ·tail (List·Memᴰ·tail (List·Memᴰ·head refl))
+every-paragraph Five = List·Memᴰ·tail (List·Memᴰ·tail (List·Memᴰ·tail (List·Memᴰ·head refl)))
+every-paragraph Six = List·Memᴰ·tail (List·Memᴰ·tail (List·Memᴰ·tail (List·Memᴰ·tail (List·Memᴰ·head refl))))
+
+-- a test that a paragraph passes, and no other of the five
+one-at : {t : Paragraph → Bool} (x : Paragraph) → t x ≡ true → all (λ g. not (other g x) || not (t g)) paragraphs ≡ true → One t
+one-at {t} x e f = record {
+  place = x;
+  inside = e;
+  outside = λ g n. let a = all-member (λ g. not (other g x) || not (t g)) paragraphs f g (every-paragraph g) in not-true (t g) (rw n at a);
+}
+
 time-one : (v : Visibility) (m : Bool) (n lot : ℕ) → One (λ g. passes v m n (groupOf lot PriceTime g))
-time-one shown m n lot = record { place = Two; inside = refl; outside = elim [ Two ↦ λ h. absurd (false≢true h) | Three ↦ λ h. refl | Four ↦ λ h. refl | Five ↦ λ h. refl | Six ↦ λ h. refl ] }
-time-one hidden m n lot = record { place = Three; inside = refl; outside = elim [ Two ↦ λ h. refl | Three ↦ λ h. absurd (false≢true h) | Four ↦ λ h. refl | Five ↦ λ h. refl | Six ↦ λ h. refl ] }
+time-one shown m n lot = one-at Two refl refl
+time-one hidden m n lot = one-at Three refl refl
 
 -- where a lot or more stands under pro rata, and where less
 lotTest : Visibility → Bool → Bool → Paragraph → Bool
@@ -72,11 +88,11 @@ lotTest v m lots Six = sameVisibility v hidden && (not m && not lots)
 
 lot-one : (v : Visibility) (m lots : Bool) → One (lotTest v m lots)
 unfolding lotTest
-lot-one shown m true = record { place = Two; inside = refl; outside = elim [ Two ↦ λ h. absurd (false≢true h) | Three ↦ λ h. refl | Four ↦ λ h. refl | Five ↦ λ h. refl | Six ↦ λ h. refl ] }
-lot-one shown m false = record { place = Three; inside = refl; outside = elim [ Two ↦ λ h. refl | Three ↦ λ h. absurd (false≢true h) | Four ↦ λ h. refl | Five ↦ λ h. refl | Six ↦ λ h. refl ] }
-lot-one hidden true lots = record { place = Five; inside = refl; outside = elim [ Two ↦ λ h. refl | Three ↦ λ h. refl | Four ↦ λ h. refl | Five ↦ λ h. absurd (false≢true h) | Six ↦ λ h. refl ] }
-lot-one hidden false true = record { place = Four; inside = refl; outside = elim [ Two ↦ λ h. refl | Three ↦ λ h. refl | Four ↦ λ h. absurd (false≢true h) | Five ↦ λ h. refl | Six ↦ λ h. refl ] }
-lot-one hidden false false = record { place = Six; inside = refl; outside = elim [ Two ↦ λ h. refl | Three ↦ λ h. refl | Four ↦ λ h. refl | Five ↦ λ h. refl | Six ↦ λ h. absurd (false≢true h) ] }
+lot-one shown m true = one-at Two refl refl
+lot-one shown m false = one-at Three refl refl
+lot-one hidden true lots = one-at Five refl refl
+lot-one hidden false true = one-at Four refl refl
+lot-one hidden false false = one-at Six refl refl
 
 below : (lot n : ℕ) → not (leb lot n) ≡ ltb n lot
 below lot n = go (leb lot n) refl

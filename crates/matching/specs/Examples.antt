@@ -1,9 +1,10 @@
--- Worked values of take on lists of orders, computed by the checker: a take through two prices, and one through all five paragraphs.
+-- Worked values of take, computed by the checker: through two prices, through all five paragraphs, and refused on bytes.
 use Prim.Native.Nat.{ℕ}
 use mathlib.Core.Path.{_≡_, refl}
 use mathlib.Core.Bool.{Bool, true, false, _&&_}
 use mathlib.Core.List.{List, [], _∷_, map}
 use native.Mathlib.Omega.{arith}
+use lib.ListN.{drop, set, replicate}
 use lib.Dec.{eqb}
 use Rattle.units.specs.Lists.{all, sameNumbers}
 use Rattle.sharing.specs.Round.{goesRound, round}
@@ -13,12 +14,16 @@ use Rattle.record.specs.declared.order.Side.the-variants.{Buy, Sell}
 use Rattle.record.specs.declared.order.Kind.{Kind}
 use Rattle.record.specs.declared.order.Kind.the-variants.{Displayed, NonDisplayed, MinimumQuantity}
 use Rattle.record.specs.declared.order.Order.{Order}
+use Rattle.record.specs.Codec.{encode, decode}
 use Rattle.record.specs.Order.{sizeOf, withInterest, settled}
+use Rattle.record.specs.Record.{numbersOf, orderOf, numbersSound}
+use Rattle.book.specs.Sound.{sound, ordersOf, bookOf}
 use Rattle.matching.specs.declared.Algorithm.the-variants.{PriceTime, ProRata, PriceSetter}
 use Rattle.matching.specs.declared.incoming.Incoming.{Incoming}
 use Rattle.matching.specs.Levels.{priceLevels}
 use Rattle.matching.specs.Paragraph.{partOf}
 use Rattle.matching.specs.Take.{allocationAt, allocationsAt, allocationsOver, allocations, executionsOf, lossesOf, Outcome, outcome}
+use Rattle.matching.specs.TakeCall.{TakeAnswer, outcomeOf, written, takeCall}
 use Rattle.matching.specs.Fairness.{LotBounds}
 
 sell : Kind → ℕ → ℕ → ℕ → Order
@@ -126,6 +131,46 @@ values =
       rest = 4 ∷ [];
       sizes = 49 ∷ [];
     }) ∷ []
+
+-- take on bytes: side, limit, size, algorithm
+take : ℕ → ℕ → ℕ → ℕ → List ℕ → List ℕ → TakeAnswer
+take side limit size algorithm = takeCall (record { side = side; limit = limit; size = size; algorithm = algorithm })
+
+-- the answer is this refusal with zeros, and the buffers are as they were
+refused : ℕ → TakeAnswer → List ℕ → List ℕ → Bool
+refused n a s x =
+    eqb (a .taken .refusal) n && eqb (a .taken .count) 0 && eqb (a .taken .left) 0 && sameNumbers (a .book) s && sameNumbers (a .executions) x
+
+accepted : TakeAnswer → ℕ → ℕ → Bool
+accepted a count left = eqb (a .taken .refusal) 0 && eqb (a .taken .count) count && eqb (a .taken .left) left
+
+book : List ℕ
+book = bookOf 3 twoPrices
+
+damaged : List ℕ
+damaged = set book 95 1
+
+short : List ℕ
+short = replicate 31 7
+
+calls : List Bool
+calls =
+    -- the refusals, each before the next
+    refused 1 (take 3 100100 400 2 damaged short) damaged short ∷
+    refused 1 (take 1 0 400 2 book short) book short ∷
+    refused 1 (take 1 100100 1000000 2 book short) book short ∷
+    refused 1 (take 1 100100 400 4 book short) book short ∷
+    refused 2 (take 1 100100 400 2 damaged short) damaged short ∷
+    refused 8 (take 1 100100 400 2 book short) book short ∷
+    -- a buffer for one execution, of any length, is enough for one, and none is needed for none
+    accepted (take 1 100100 200 2 book short) 1 0 ∷
+    accepted (take 1 99999 200 2 book []) 0 200 ∷
+    accepted (take 1 100000 10 1 [] []) 0 10 ∷
+    sameNumbers (drop 16 (take 1 100100 200 2 book short .executions)) (replicate 15 7) ∷ []
+
+called : all (λ b. b) calls ≡ true
+unfolding calls short damaged book accepted refused take twoPrices sell takeCall written outcomeOf outcome lossesOf executionsOf allocations allocationsOver allocationsAt allocationAt partOf priceLevels lotSharing round goesRound sound ordersOf bookOf encode decode numbersOf orderOf numbersSound withInterest settled
+called = refl
 
 worked : all (λ b. b) values ≡ true
 unfolding values everyKind twoPrices holds resting selling sell buy outcome lossesOf executionsOf allocations allocationsOver allocationsAt allocationAt partOf priceLevels setterSharing besideSetter lotSharing round goesRound withInterest settled

@@ -4,15 +4,16 @@ use mathlib.Core.Path.{_≡_, refl}
 use mathlib.Core.Bool.{Bool, true, false, not}
 use mathlib.Core.List.{List, [], _∷_}
 use lib.ListN.{set}
+use lib.Dec.{eqb}
 use Rattle.units.specs.Lists.{all, sameNumbers}
 use Rattle.record.specs.declared.order.Side.the-variants.{Sell}
 use Rattle.record.specs.declared.order.Kind.the-variants.{MinimumQuantity}
 use Rattle.record.specs.declared.order.Order.{Order}
 use Rattle.record.specs.declared.execution.Execution.{Execution}
-use Rattle.record.specs.Codec.{encode, decode}
+use Rattle.record.specs.Codec.{formBytes, encode, decode}
 use Rattle.record.specs.Order.{interest, withInterest, settled}
 use Rattle.record.specs.Record.{orderForm, numbersOf, orderOf, numbersSound, encodeOrder, decodeOrder, recordSound}
-use Rattle.record.specs.Execution.{encodeExecution, executionOf, decodeExecution}
+use Rattle.record.specs.Execution.{executionBytes, encodeExecution, executionOf, decodeExecution}
 
 -- order 258, a displayed sell of 600 at 10.00 dollars that set the price
 setter : List ℕ
@@ -36,6 +37,9 @@ execution = record { number = 3; price = record { 0 = 100000 }; shares = record 
 
 values : List Bool
 values =
+    -- 32 and 16 bytes
+    eqb (formBytes orderForm) 32 ∷
+    eqb executionBytes 16 ∷
     recordSound orderForm setter ∷
     sameNumbers (encodeOrder orderForm (decodeOrder orderForm setter)) setter ∷
     recordSound orderForm (encodeOrder orderForm minimum) ∷

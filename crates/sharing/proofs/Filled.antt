@@ -1,18 +1,16 @@
 -- What sharing leaves: no more than the shares left are given, no part gets more than its size, and where shares remain every part
 -- is filled, or has nothing and a minimum above what remains.
 use Prim.Native.Nat.{ℕ, _-_, _≤_, _<_, min}
-use mathlib.Core.Path.{_≡_, refl, subst⁻¹}
+use mathlib.Core.Path.{_≡_, refl}
 use mathlib.Core.Bool.{Bool, true, false}
 use mathlib.Core.List.{List, [], _∷_, map, List·Memᴰ, List·Memᴰ·head, List·Memᴰ·tail}
 use native.Mathlib.Omega.{arith}
 use lib.Dec.{leb}
-use lib.ListN.{length}
 use borrow.Author.Tests.{leb-false}
 use Rattle.units.specs.Lists.{orZero, sum, total}
-use Rattle.units.proofs.Totals.{total-map}
+use Rattle.units.proofs.Totals.{total-map, total-full}
 use Rattle.sharing.specs.Rank.{Part, partSize, ranked}
 use Rattle.sharing.specs.Round.{taking, goesRound, round}
-use Rattle.sharing.proofs.Pointwise.{total-full}
 use Rattle.sharing.proofs.Ranks.{Rising, mem-ranked, differ-ranked}
 use Rattle.sharing.proofs.Turns.{remains, Turn, turn, taking-le, round-given}
 
@@ -35,21 +33,6 @@ pub data Each (P : Part → ℕ → Type 0) : List Part → List ℕ → Type 0 
 pub each-map : {P : Part → ℕ → Type 0} (f : Part → ℕ) (ps : List Part) → ((p : Part) → List·Memᴰ p ps → P p (f p)) → Each P ps (map f ps)
 each-map f [] h = none
 each-map f (p ∷ ps) h = more (h p (List·Memᴰ·head refl)) (each-map f ps (λ q m. h q (List·Memᴰ·tail m)))
-
--- a fact of each part and its number, weakened
-pub each-weaken : {P Q : Part → ℕ → Type 0} → ((p : Part) (n : ℕ) → P p n → Q p n) → {ps : List Part} {ns : List ℕ} → Each P ps ns → Each Q ps ns
-each-weaken h none = none
-each-weaken h (more {p = p} {n = n} x e) = more (h p n x) (each-weaken h e)
-
--- there is one number for each part
-pub each-length : {P : Part → ℕ → Type 0} {ps : List Part} {ns : List ℕ} → Each P ps ns → length ns ≡ length ps
-each-length none = refl
-each-length (more x e) = rw (each-length e)
-
--- the entry of a member
-pub each-member : (P : Part → ℕ → Type 0) (f : Part → ℕ) (ps : List Part) → Each P ps (map f ps) → (p : Part) → List·Memᴰ p ps → P p (f p)
-each-member P f (x ∷ xs) (more h e) p (List·Memᴰ·head k) = subst⁻¹ (λ (y : Part). P y (f y)) k h
-each-member P f (x ∷ xs) (more h e) p (List·Memᴰ·tail k) = each-member P f xs e p k
 
 -- what sharing leaves, in three: the total, each part's size, and each part where shares remain
 pub record Filled (left : ℕ) (ps : List Part) (ns : List ℕ) : Type 0 where

@@ -1,4 +1,3 @@
-pub mod Pointwise
 pub mod Ranks
 pub mod Turns
 pub mod Filled

@@ -72,7 +72,7 @@ module _ (lot q : ℕ) (ps : List Part) where
       go : Dec (0 < S) → total (firstStep lot q S) ps ≤ q
       go (yes k) =
           let a = total-mul (firstStep lot q S) S ps in
-          let b = total-le (first-below lot q S) ps in
+          let b = total-le ps (λ p i. first-below lot q S p) in
           le-of-mul-le-mul-right {k = S} (omega (arith, total-mul partSize q ps)) k
       go (no k) = let a = total-same ps (λ p i. first-none lot q S p (omega arith)) in omega (arith, total-none ps)
 
@@ -84,7 +84,7 @@ module _ (lot q : ℕ) (ps : List Part) where
       go (yes k) =
           let a = total-add (firstStep lot q S) (secondStep lot q S) ps in
           let b = total-mul (λ p. firstStep lot q S p + secondStep lot q S p) S ps in
-          let c = total-le (λ p. steps-above lot q S p l h k) ps in
+          let c = total-le ps (λ p i. steps-above lot q S p l h k) in
           let d : q ≤ total (λ p. firstStep lot q S p + secondStep lot q S p) ps = le-of-mul-le-mul-right {k = S} (omega (arith, total-mul partSize q ps)) k in
           omega arith
       go (no k) = omega arith

@@ -10,11 +10,10 @@ use borrow.Author.Tests.{leb-true, leb-false}
 use Rattle.units.specs.Lists.{any, orZero, total, zipWith}
 use Rattle.units.proofs.Tests.{and-true, pick-mono}
 use Rattle.units.proofs.Members.{Every, member-any}
-use Rattle.units.proofs.Totals.{total-add, total-same}
+use Rattle.units.proofs.Totals.{total-add, total-le, total-same}
 use Rattle.sharing.specs.Rank.{Part, partSize}
 use Rattle.sharing.specs.Lots.{divided, firstStep, lotSharing}
 use Rattle.sharing.specs.Setter.{guarantee, isSetter, ofSetter, withoutSetter, others, besideSetter, setterSharing}
-use Rattle.sharing.proofs.Pointwise.{total-within}
 use Rattle.sharing.proofs.Ranks.{Rising}
 use Rattle.sharing.proofs.Filled.{Filled, map-filled}
 use Rattle.sharing.proofs.LotSharing.{lotShare, lots-map, lots-least, lots-most, lots-zero, lots-within, lots-total}
@@ -101,7 +100,7 @@ module _ (lot q m : ℕ) (ps : List Part) (l : 0 < lot) (h : q ≤ total partSiz
       let a = kept-means lot q ps k .1 in
       let b = lots-total lot q ps m r z l h in
       let c = in-two (lotShare lot q ps) ps in
-      let d = total-within ps (λ p i. pick-mono (not (p .setter)) (lots-within lot q ps m r h p i)) in
+      let d = total-le ps (λ p i. pick-mono (not (p .setter)) (lots-within lot q ps m r h p i)) in
       omega (arith, others-sum partSize ps (λ p i e. e))
 
   module _ (p : Part) (i : List·Memᴰ p ps) (e : p .setter ≡ false) where

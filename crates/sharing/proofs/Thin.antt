@@ -1,20 +1,17 @@
 -- A group with some parts left out: totals, the rank of those kept, and shares that go round among them.
-use Prim.Native.Nat.{ℕ, _+_, _-_, _≤_, _<_}
+use Prim.Native.Nat.{ℕ, _+_, _-_, _≤_}
 use mathlib.Core.Path.{_≡_, refl, ap}
-use mathlib.Core.Logic.{_⊎_, inl, inr}
 use mathlib.Core.Bool.{Bool, true, false, cond, _||_}
 use mathlib.Core.List.{List, [], _∷_, map}
 use native.Mathlib.Omega.{arith}
 use native.Mathlib.Nat.{zero-add, sub-zero}
 use lib.Dec.{eqb}
-use borrow.Author.Tests.{lt-leb}
 use Rattle.units.specs.Lists.{any, orZero, total}
 use Rattle.units.proofs.Tests.{pick-zero}
 use Rattle.units.proofs.Members.{Every, every-weaken}
-use Rattle.sharing.specs.Rank.{Part, partSize, place, ranked}
+use Rattle.sharing.specs.Rank.{Part, place, ranked}
 use Rattle.sharing.specs.Round.{taking, goesRound}
 use Rattle.sharing.proofs.Ranks.{Rising, Weak, Pairwise, pairwise-ranked}
-use Rattle.sharing.proofs.Turns.{taking-le}
 
 -- the second list is the first without some parts that are Z
 pub data Thin (Z : Part → Type 0) : List Part → List Part → Type 0 where
@@ -102,16 +99,3 @@ round-thin want bound h left n l (keep {p = p} t) =
     ap (λ x. orZero (eqb (p .number) n) (taking want left p) + x) (round-thin want bound h (left - taking want left p) n (omega arith) t)
 round-thin want bound h left n l (drop {p = p} z t) =
     rw (h p z left l, pick-zero (eqb (p .number) n) refl, zero-add, sub-zero) (round-thin want bound h left n l t)
-
--- a part that is nothing, or whose minimum is above the shares left
-abbrev pub Idle : ℕ → Part → Type 0
-Idle left p = (p .size ≡ 0) ⊎ (left < p .minimum)
-
-idle : (left : ℕ) (p : Part) → Idle left p → (x : ℕ) → x ≤ left → taking partSize x p ≡ 0
-idle left p (inl e) x l = omega (arith, taking-le partSize x p .1)
-idle left p (inr h) x l = rw (lt-leb (p .minimum) x (omega arith))
-
--- it may stay in the group or not
-pub idle-thin : (before : Part → Part → Bool) → Weak before → (m left n : ℕ) {ps qs : List Part} → Thin (Idle left) ps qs → Rising m ps
-    → goesRound partSize left (ranked before ps) n ≡ goesRound partSize left (ranked before qs) n
-idle-thin before w m left n t r = round-thin partSize left (idle left) left n (omega arith) (ranked-thin before w m t r)

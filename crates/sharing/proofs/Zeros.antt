@@ -5,12 +5,11 @@ use mathlib.Core.Bool.{Bool, false}
 use mathlib.Core.List.{List, map, List·Memᴰ}
 use native.Mathlib.Omega.{arith}
 use Rattle.units.specs.Lists.{orZero, total}
-use Rattle.units.proofs.Totals.{total-same}
+use Rattle.units.proofs.Totals.{total-same, map-same}
 use Rattle.sharing.specs.Rank.{Part, partSize, larger, ranked}
 use Rattle.sharing.specs.Round.{goesRound, round}
 use Rattle.sharing.specs.Lots.{firstStep, secondStep, lotSharing}
 use Rattle.sharing.specs.Setter.{guarantee, isSetter, ofSetter, withoutSetter, setterSharing}
-use Rattle.sharing.proofs.Pointwise.{map-same}
 use Rattle.sharing.proofs.Ranks.{Rising, Weak, by-size, mem-ranked, differ-ranked}
 use Rattle.sharing.proofs.Turns.{taking-le, turn}
 use Rattle.sharing.proofs.LotSharing.{lotShare, lots-map, lots-zero, first-zero}

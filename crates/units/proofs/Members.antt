@@ -2,7 +2,7 @@
 use mathlib.Core.Path.{_≡_, refl, sym, ap, _∙_, subst⁻¹}
 use mathlib.Core.Bool.{Bool, true, false, _||_, true≢false, false≢true}
 use mathlib.Core.List.{List, [], _∷_, _++_, List·Memᴰ, List·Memᴰ·head, List·Memᴰ·tail, List·Memᴰ·not-nil}
-use Rattle.units.specs.Lists.{all, any, filter, consIf}
+use Rattle.units.specs.Lists.{all, any, filter, consIf, flatMap}
 use Rattle.units.proofs.Tests.{and-true, or-false, or-true}
 
 module _ {A : Type 0} where
@@ -85,3 +85,9 @@ module _ {A : Type 0} where
       go true f (List·Memᴰ·tail k) ih = List·Memᴰ·tail (ih k)
       go false f (List·Memᴰ·head k) ih = absurd (true≢false (sym e ∙ (ap p k ∙ f)))
       go false f (List·Memᴰ·tail k) ih = ih k
+
+module _ {A B : Type 0} where
+  -- of lists one behind another
+  pub every-flat : (P : B → Type 0) (f : A → List B) (xs : List A) → Every (λ x. Every P (f x)) xs → Every P (flatMap f xs)
+  every-flat P f [] h = tt
+  every-flat P f (x ∷ xs) h = every-append P (f x) (flatMap f xs) (h .0) (every-flat P f xs (h .1))

@@ -1,10 +1,10 @@
--- Laws of totals.
+-- Laws of totals, and of lists made number by number.
 use Prim.Native.Nat.{ℕ, _+_, _*_, _≤_}
 use mathlib.Core.Path.{_≡_, refl, sym, ap, _∙_, subst⁻¹}
 use mathlib.Core.List.{List, [], _∷_, _++_, map, List·Memᴰ, List·Memᴰ·head, List·Memᴰ·tail, List·Memᴰ·not-nil}
 use native.Mathlib.Omega.{arith}
 use native.Mathlib.Nat.{zero-add, zero-mul, add-mul}
-use Rattle.units.specs.Lists.{total, zipWith}
+use Rattle.units.specs.Lists.{total, flatMap, zipWith}
 
 module _ {A : Type 0} where
   pub total-append : (f : A → ℕ) (xs ys : List A) → total f (xs ++ ys) ≡ total f xs + total f ys
@@ -19,9 +19,10 @@ module _ {A : Type 0} where
   total-mul f k [] = zero-mul k
   total-mul f k (x ∷ xs) = add-mul (f x) (total f xs) k ∙ ap (λ n. f x * k + n) (total-mul f k xs)
 
-  pub total-le : {f g : A → ℕ} → ((x : A) → f x ≤ g x) → (xs : List A) → total f xs ≤ total g xs
-  total-le h [] = omega arith
-  total-le h (x ∷ xs) = omega (arith, h x, total-le h xs)
+  -- no more at any member
+  pub total-le : {f g : A → ℕ} (xs : List A) → ((x : A) → List·Memᴰ x xs → f x ≤ g x) → total f xs ≤ total g xs
+  total-le [] h = omega arith
+  total-le (x ∷ xs) h = omega (arith, h x (List·Memᴰ·head refl), total-le xs (λ y m. h y (List·Memᴰ·tail m)))
 
   pub total-none : (xs : List A) → total (λ x. 0) xs ≡ 0
   total-none [] = refl
@@ -32,15 +33,15 @@ module _ {A : Type 0} where
   total-same [] h = refl
   total-same (x ∷ xs) h = omega (arith, h x (List·Memᴰ·head refl), total-same xs (λ y m. h y (List·Memᴰ·tail m)))
 
-  -- a total that is reached, part by part no more than its bound, is reached at each member
-  pub total-reached : {f g : A → ℕ} → ((x : A) → f x ≤ g x) → (xs : List A) → total g xs ≤ total f xs → (x : A) → List·Memᴰ x xs → f x ≡ g x
-  total-reached h [] e x m = absurd (List·Memᴰ·not-nil m)
-  total-reached {f} {g} h (y ∷ ys) e x (List·Memᴰ·head k) =
-      let a = h y in
-      let b = total-le h ys in
+  -- a total that is no more at any member, and is reached, is reached at each
+  pub total-full : {f g : A → ℕ} (xs : List A) → ((x : A) → List·Memᴰ x xs → f x ≤ g x) → total g xs ≤ total f xs → (x : A) → List·Memᴰ x xs → f x ≡ g x
+  total-full [] h e x m = absurd (List·Memᴰ·not-nil m)
+  total-full {f} {g} (y ∷ ys) h e x (List·Memᴰ·head k) =
+      let a = h y (List·Memᴰ·head refl) in
+      let b = total-le ys (λ z m. h z (List·Memᴰ·tail m)) in
       let c : f y ≡ g y = omega arith in
       subst⁻¹ (λ (z : A). f z ≡ g z) k c
-  total-reached h (y ∷ ys) e x (List·Memᴰ·tail k) = let a = h y in total-reached h ys (omega arith) x k
+  total-full (y ∷ ys) h e x (List·Memᴰ·tail k) = let a = h y (List·Memᴰ·head refl) in total-full ys (λ z m. h z (List·Memᴰ·tail m)) (omega arith) x k
 
   -- a member's number is in the total
   pub total-member : (f : A → ℕ) (xs : List A) (x : A) → List·Memᴰ x xs → f x ≤ total f xs
@@ -49,6 +50,16 @@ module _ {A : Type 0} where
   total-member f (y ∷ ys) x (List·Memᴰ·tail k) = omega (arith, total-member f ys x k)
 
 module _ {A B : Type 0} where
+  -- equal at every member
+  pub map-same : {f g : A → B} (xs : List A) → ((x : A) → List·Memᴰ x xs → f x ≡ g x) → map f xs ≡ map g xs
+  map-same [] h = refl
+  map-same (x ∷ xs) h = rw (h x (List·Memᴰ·head refl), map-same xs (λ y m. h y (List·Memᴰ·tail m)))
+
+  -- over lists one behind another
+  pub total-flat : (f : B → ℕ) (g : A → List B) (xs : List A) → total f (flatMap g xs) ≡ total (λ x. total f (g x)) xs
+  total-flat f g [] = refl
+  total-flat f g (x ∷ xs) = omega (arith, total-append f (g x) (flatMap g xs), total-flat f g xs)
+
   pub total-map : (f : B → ℕ) (g : A → B) (xs : List A) → total f (map g xs) ≡ total (λ x. f (g x)) xs
   total-map f g [] = refl
   total-map f g (x ∷ xs) = ap (λ n. f (g x) + n) (total-map f g xs)
