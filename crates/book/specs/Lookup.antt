@@ -12,6 +12,7 @@ use Rattle.book.specs.declared.Found.{Found}
 use Rattle.book.specs.Sound.{recordBytes, ordersOf}
 use Rattle.book.specs.Refusal.{Refusals, refuse, refusalOf, isAccepted}
 
+-- check is given no number, and finds fault with nothing but the book
 abbrev pub checkRefusals : Refusals
 checkRefusals = record { ofCall = []; ofBook = [] }
 
@@ -33,6 +34,7 @@ abbrev pub placeOf : ℕ → List Order → ℕ
 placeOf n [] = 0
 placeOf n (o ∷ os) = cond (hasNumber n o) 0 (suc (placeOf n os))
 
+-- find is refused 1, 2, 3
 abbrev pub findRefusals : ℕ → List Order → Refusals
 findRefusals n os = record {
   ofCall = refuse 1 (not (numberInRange n)) ∷ [];
@@ -49,6 +51,7 @@ findCall n s =
       length = orZero (isAccepted r) recordBytes;
     }
 
--- the part of the book that find answers with; a refused find's is empty, and lies at the book's start, which the scope leaves free
+-- The part of the book that find answers with. A refused find's is empty; where an empty part lies the scope leaves free, and here it is
+-- the book's start.
 abbrev pub foundPart : Found → List ℕ → List ℕ
 foundPart f s = take (f .length) (drop (f .start) s)

@@ -32,10 +32,12 @@ settersSound (o ∷ os) = not (any (sameSetter o) os) && settersSound os
 abbrev pub isUnused : List ℕ → Bool
 isUnused r = isZero (getD r 0 0)
 
+-- the records before it, those of the orders
 abbrev pub occupied : List (List ℕ) → List (List ℕ)
 occupied [] = []
 occupied (r ∷ rs) = cond (isUnused r) [] (r ∷ occupied rs)
 
+-- that record and all behind it
 abbrev pub behind : List (List ℕ) → List (List ℕ)
 behind [] = []
 behind (r ∷ rs) = cond (isUnused r) (r ∷ rs) (behind rs)
@@ -51,6 +53,7 @@ module _ (f : Form) where
   abbrev pub capacityIn : List ℕ → ℕ
   capacityIn s = length s / formBytes f
 
+  -- all its records
   abbrev pub recordsIn : List ℕ → List (List ℕ)
   recordsIn s = firstRecords (capacityIn s) s
 

@@ -22,6 +22,7 @@ pub record AddRequest : Type 0 where
   pub size : ℕ
   pub minimum : ℕ
 
+-- they are in their ranges, the minimum by the kind
 abbrev pub requestInRange : AddRequest → Bool
 requestInRange q =
     inRange 1 2 (q .side) && inRange 1 3 (q .kind) && numberInRange (q .number) && priceInRange (q .price)
@@ -55,6 +56,7 @@ couldTrade new o = isTradable (asTaker new) o && leb (minimumOf (o .kind)) (allS
 abbrev pub isStale : ℕ → List Order → Bool
 isStale n os = any (λ o. leb n (o .number)) os
 
+-- add is refused 1, 2, 4, 5, 6, the last where there is no free record
 abbrev pub addRefusals : AddRequest → ℕ → List Order → Refusals
 addRefusals q capacity os = record {
   ofCall = refuse 1 (not (requestInRange q)) ∷ [];
@@ -68,6 +70,7 @@ addRefusals q capacity os = record {
 unfoldable pub added : ℕ → AddRequest → List Order → List Order
 added lot q os = os ++ (requested q (setsPrice lot (requested q false) os) ∷ [])
 
+-- what add answers, and the book afterwards
 unfoldable pub addCall : AddRequest → List ℕ → Changed
 addCall q s =
     let os = ordersOf s in

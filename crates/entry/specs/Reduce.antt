@@ -14,6 +14,7 @@ use Rattle.book.specs.Lookup.{hasNumber, isUnknown}
 abbrev pub asksTooMuch : ℕ → ℕ → Order → Bool
 asksTooMuch n shares o = hasNumber n o && ltb (allShares (interestOf o)) shares
 
+-- reduce is refused 1, 2, 3, 7
 abbrev pub reduceRefusals : ℕ → ℕ → List Order → Refusals
 reduceRefusals n shares os = record {
   ofCall = refuse 1 (not (numberInRange n && sharesInRange shares)) ∷ [];
@@ -24,6 +25,7 @@ reduceRefusals n shares os = record {
 abbrev pub reduction : ℕ → Interest → Interest
 reduction shares i = let n = min shares (i .nonDisplayed) in interest (shares - n) n
 
+-- the order reduced, where it is the one named
 abbrev pub reducedIf : Bool → ℕ → Order → Order
 reducedIf b shares o = cond b (settled (reduction shares (interestOf o)) o) o
 
@@ -31,6 +33,7 @@ reducedIf b shares o = cond b (settled (reduction shares (interestOf o)) o) o
 unfoldable pub reduced : ℕ → ℕ → List Order → List Order
 reduced n shares os = filter isResting (map (λ o. reducedIf (hasNumber n o) shares o) os)
 
+-- what reduce answers, and the book afterwards
 unfoldable pub reduceCall : ℕ → ℕ → List ℕ → Changed
 reduceCall n shares s =
     let os = ordersOf s in

@@ -56,6 +56,7 @@ proRataGroup lot Four = group hidden (λ m n. not m && leb lot n)
 proRataGroup lot Five = group hidden (λ m n. m)
 proRataGroup lot Six = group hidden (λ m n. not m && ltb n lot)
 
+-- the group of a paragraph; the variation has those of pro rata
 abbrev pub groupOf : ℕ → Algorithm → Paragraph → Group
 groupOf lot PriceTime g = timeGroup g
 groupOf lot ProRata g = proRataGroup lot g

@@ -26,6 +26,7 @@ used a = sum (a .allotment)
 
 -- Groups and sizes are those of the book at entry; only the shares left go from one paragraph to the next.
 module _ (lot : ℕ) (alg : Algorithm) (t : Taker) (os : List Order) where
+  -- one paragraph at one price
   unfoldable pub allocationAt : ℕ → Paragraph → ℕ → Allocation
   allocationAt price g left =
       let group = groupOf lot alg g in

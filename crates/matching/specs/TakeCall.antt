@@ -24,19 +24,22 @@ pub record TakeRequest : Type 0 where
   pub size : ℕ
   pub algorithm : ℕ
 
+-- they are in their ranges
 abbrev pub requestInRange : TakeRequest → Bool
 requestInRange q = inRange 1 2 (q .side) && priceInRange (q .limit) && sharesInRange (q .size) && inRange 1 3 (q .algorithm)
 
+-- the incoming order that they say
 abbrev pub incomingOf : TakeRequest → Incoming
 incomingOf q = record {
   taker = record { side = sideOf (q .side); limit = record { 0 = q .limit } };
   size = record { 0 = q .size };
 }
 
+-- its outcome under the algorithm that they say
 unfoldable pub outcomeOf : TakeRequest → List Order → Outcome
 outcomeOf q os = outcome roundLot (algorithmOf (q .algorithm)) (incomingOf q) os
 
--- refusal 8: the executions need more bytes than the execution buffer has
+-- take is refused 1, 2, 8, the last where the executions need more bytes than the execution buffer has
 abbrev pub takeRefusals : TakeRequest → List Execution → List ℕ → Refusals
 takeRefusals q es x = record {
   ofCall = refuse 1 (not (requestInRange q)) ∷ [];
@@ -47,12 +50,13 @@ takeRefusals q es x = record {
 unfoldable pub written : List Execution → List ℕ → List ℕ
 written es x = flatMap encodeExecution es ++ drop (executionBytes * length es) x
 
+-- the numbers that take returns, the book and the execution buffer
 pub record TakeAnswer : Type 0 where
   pub taken : Taken
   pub book : List ℕ
   pub executions : List ℕ
 
--- what is left of the incoming order isn't put in the book
+-- What take answers, and both buffers afterwards. What is left of the incoming order isn't put in the book.
 unfoldable pub takeCall : TakeRequest → List ℕ → List ℕ → TakeAnswer
 takeCall q s x =
     let o = outcomeOf q (ordersOf s) in

@@ -10,6 +10,7 @@ abbrev pub toBytes : ℕ → ℕ → List ℕ
 toBytes zero n = []
 toBytes (suc width) n = n % 256 ∷ toBytes width (n / 256)
 
+-- and read back
 abbrev pub fromBytes : List ℕ → ℕ
 fromBytes [] = 0
 fromBytes (b ∷ bs) = b + 256 * fromBytes bs
@@ -20,6 +21,7 @@ join [] ns = []
 join (w ∷ ws) [] = []
 join (w ∷ ws) (n ∷ ns) = toBytes w n ++ join ws ns
 
+-- bytes cut by the widths, and read
 abbrev pub split : List ℕ → List ℕ → List ℕ
 split [] s = []
 split (w ∷ ws) s = fromBytes (take w s) ∷ split ws (drop w s)
@@ -29,14 +31,18 @@ pub record Form : Type 0 where
   pub mark : List ℕ
   pub widths : List ℕ
 
+-- how many bytes a record of the form has
 abbrev pub formBytes : Form → ℕ
 formBytes f = length (f .mark) + sum (f .widths)
 
+-- the record of a row of numbers
 unfoldable pub encode : Form → List ℕ → List ℕ
 encode f ns = f .mark ++ join (f .widths) ns
 
+-- the numbers of a record, its mark left aside
 unfoldable pub decode : Form → List ℕ → List ℕ
 decode f s = split (f .widths) (drop (length (f .mark)) s)
 
+-- a record begins with the mark of its form
 abbrev pub hasMark : Form → List ℕ → Bool
 hasMark f s = sameNumbers (take (length (f .mark)) s) (f .mark)

@@ -16,6 +16,7 @@ executionBytes = formBytes executionForm
 abbrev pub encodeExecution : Execution → List ℕ
 encodeExecution e = encode executionForm (0 ∷ 0 ∷ e .number ∷ e .price .0 ∷ e .shares .0 ∷ [])
 
+-- the execution that its numbers say
 unfoldable pub executionOf : List ℕ → Execution
 executionOf ns = record {
   number = getD ns 2 0;
@@ -24,6 +25,7 @@ executionOf ns = record {
   paragraph = getD ns 0 0;
 }
 
+-- the execution at the start of a buffer
 abbrev pub decodeExecution : List ℕ → Execution
 decodeExecution s = executionOf (decode executionForm s)
 

@@ -14,6 +14,7 @@ abbrev pub sideNumber : Side → ℕ
 sideNumber Buy = 1
 sideNumber Sell = 2
 
+-- and back
 abbrev pub sideOf : ℕ → Side
 sideOf n = cond (eqb n 1) Buy Sell
 
@@ -23,6 +24,7 @@ kindNumber Displayed = 1
 kindNumber NonDisplayed = 2
 kindNumber (MinimumQuantity m) = 3
 
+-- and back, with the minimum
 abbrev pub kindOf : ℕ → ℕ → Kind
 kindOf n m = cond (eqb n 1) Displayed (cond (eqb n 2) NonDisplayed (MinimumQuantity (record { 0 = m })))
 
@@ -32,11 +34,13 @@ minimumOf Displayed = 0
 minimumOf NonDisplayed = 0
 minimumOf (MinimumQuantity m) = m .0
 
+-- kind 1
 abbrev pub isDisplayed : Kind → Bool
 isDisplayed Displayed = true
 isDisplayed NonDisplayed = false
 isDisplayed (MinimumQuantity m) = false
 
+-- kind 3
 abbrev pub isMinimumQuantity : Kind → Bool
 isMinimumQuantity Displayed = false
 isMinimumQuantity NonDisplayed = false
@@ -84,16 +88,20 @@ abbrev pub sharesOf : Visibility → Interest → ℕ
 sharesOf shown i = i .displayed
 sharesOf hidden i = i .nonDisplayed
 
+-- shares of one visibility, and none of the other
 abbrev pub onlyOf : Visibility → ℕ → Interest
 onlyOf shown n = interest n 0
 onlyOf hidden n = interest 0 n
 
+-- the shares of both
 abbrev pub allShares : Interest → ℕ
 allShares i = i .displayed + i .nonDisplayed
 
+-- two interests added up, each visibility by itself
 abbrev pub together : Interest → Interest → Interest
 together a b = interest (a .displayed + b .displayed) (a .nonDisplayed + b .nonDisplayed)
 
+-- what a loss leaves, each visibility by itself
 abbrev pub less : Interest → Interest → Interest
 less a b = interest (a .displayed - b .displayed) (a .nonDisplayed - b .nonDisplayed)
 
@@ -103,6 +111,7 @@ interestBy Displayed n = interest n 0
 interestBy NonDisplayed n = interest 0 n
 interestBy (MinimumQuantity m) n = interest 0 n
 
+-- the interest of an order
 abbrev pub interestOf : Order → Interest
 interestOf o = interestBy (o .kind) (sizeOf o)
 

@@ -20,6 +20,7 @@ numbersOf o =
     sideNumber (o .side) ∷ kindNumber (o .kind) ∷ o .number ∷ priceOf o ∷ sizeOf o ∷ minimumOf (o .kind) ∷ orZero (o .setter) 1 ∷
     0 ∷ 0 ∷ 0 ∷ []
 
+-- the order that a record's numbers say
 unfoldable pub orderOf : List ℕ → Order
 orderOf ns = record {
   side = sideOf (getD ns 0 0);
@@ -44,11 +45,14 @@ numbersSound ns =
     && isZero (getD ns 8 0)
     && isZero (getD ns 9 0)
 
+-- an order's record
 abbrev pub encodeOrder : Form → Order → List ℕ
 encodeOrder f o = encode f (numbersOf o)
 
+-- a record's order
 abbrev pub decodeOrder : Form → List ℕ → Order
 decodeOrder f s = orderOf (decode f s)
 
+-- a sound record has the mark, and sound numbers
 abbrev pub recordSound : Form → List ℕ → Bool
 recordSound f s = hasMark f s && numbersSound (decode f s)

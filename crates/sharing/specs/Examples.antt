@@ -43,13 +43,14 @@ values =
     value (lotSharing 100 290 (sized (150 ∷ 150 ∷ []))) (150 ∷ 140 ∷ []) ∷
     value (lotSharing 100 400 (sized (290 ∷ 200 ∷ []))) (290 ∷ 110 ∷ []) ∷
     value (lotSharing 1 7 (sized (3 ∷ 3 ∷ 3 ∷ []))) (3 ∷ 2 ∷ 2 ∷ []) ∷
-    -- the setter: examples 3, 4 and 5, equality, a setter filled whole, none at all
+    -- the setter: examples 3, 4 and 5, equality, a setter filled whole, none at all; below a lot, one that plain sharing gives more
     value (setterSharing 100 1000 (withSetter (1000 ∷ 3000 ∷ 1000 ∷ []))) (400 ∷ 500 ∷ 100 ∷ []) ∷
     value (setterSharing 100 1000 (withSetter (3000 ∷ 1000 ∷ 1000 ∷ []))) (600 ∷ 200 ∷ 200 ∷ []) ∷
     value (setterSharing 100 80 (withSetter (1000 ∷ 3000 ∷ 1000 ∷ []))) (32 ∷ 48 ∷ 0 ∷ []) ∷
     value (setterSharing 100 500 (withSetter (300 ∷ 250 ∷ 250 ∷ 200 ∷ []))) (200 ∷ 200 ∷ 100 ∷ 0 ∷ []) ∷
     value (setterSharing 100 500 (withSetter (100 ∷ 900 ∷ []))) (100 ∷ 400 ∷ []) ∷
     value (setterSharing 100 500 (sized (300 ∷ 250 ∷ 250 ∷ 200 ∷ []))) (200 ∷ 100 ∷ 100 ∷ 100 ∷ []) ∷
+    value (setterSharing 100 80 (withSetter (300 ∷ 200 ∷ []))) (80 ∷ 0 ∷ []) ∷
     -- by time, by size, by minimum; an unmet minimum is passed over and the next part is tried
     value (round byTime partSize 100 (sized (99 ∷ 100 ∷ []))) (99 ∷ 1 ∷ []) ∷
     value (round larger partSize 100 (sized (40 ∷ 50 ∷ 50 ∷ []))) (0 ∷ 50 ∷ 50 ∷ []) ∷

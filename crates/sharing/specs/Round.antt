@@ -1,5 +1,5 @@
--- Shares go round once: each part in its turn takes what it wants of what remains. Every paragraph of the rule, and the second step of
--- lot sharing, is this with some rank and some want.
+-- Shares go round once: each part in its turn takes what it wants of what remains. Price/time, paragraphs 3, 5 and 6 of pro rata, and
+-- the second step of lot sharing are this, each with its rank and its want.
 use Prim.Native.Nat.{ℕ, _+_, _-_, min}
 use mathlib.Core.Bool.{Bool}
 use mathlib.Core.List.{List, [], _∷_, map}

@@ -18,6 +18,7 @@ isSetter p = p .setter
 abbrev pub ofSetter : List Part → List ℕ → ℕ
 ofSetter ps ns = sum (zipWith (λ p n. orZero (p .setter) n) ps ns)
 
+-- nothing in place of the setter
 abbrev pub withoutSetter : Part → Part
 withoutSetter p = cond (p .setter) (noPart (p .number)) p
 
