@@ -9,7 +9,7 @@ use lib.Seq.{take-at, drop-at}
 use Rattle.units.specs.Lists.{all, flatMap, isZero}
 use Rattle.units.proofs.Tests.{true-and}
 use Rattle.units.proofs.Members.{Every}
-use Rattle.record.specs.declared.order.Order.{Order}
+use Rattle.orders.specs.declared.order.Order.{Order}
 use Rattle.record.specs.Codec.{encode}
 use Rattle.record.specs.Record.{numbersOf, encodeOrder, decodeOrder, recordSound}
 use Rattle.record.proofs.Forms.{length-encode}
@@ -20,11 +20,13 @@ use Rattle.book.specs.Sound.{firstRecords, recordsIn, sound, ordersOf, b
 use Rattle.book.proofs.Soundness.{OrdersSound, facts-book}
 use Rattle.book.proofs.Zeros.{zeros, first-zeros, occupied-zeros, behind-zeros, zeros-zero}
 
-length-order : (o : Order) → length (encodeOrder form o) ≡ recordBytes
+-- an order's record has the bytes of a record
+pub length-order : (o : Order) → length (encodeOrder form o) ≡ recordBytes
 unfolding numbersOf
 length-order o = length-encode form (numbersOf o) refl
 
-length-orders : (os : List Order) → length (flatMap (encodeOrder form) os) ≡ recordBytes * length os
+-- and so has each of several
+pub length-orders : (os : List Order) → length (flatMap (encodeOrder form) os) ≡ recordBytes * length os
 length-orders [] = refl
 length-orders (o ∷ os) = length-append (encodeOrder form o) (flatMap (encodeOrder form) os) ∙ omega (arith, length-order o, length-orders os)
 

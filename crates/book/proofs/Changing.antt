@@ -4,7 +4,7 @@ use mathlib.Core.Path.{_≡_, ap, _∙_}
 use mathlib.Core.Bool.{true}
 use mathlib.Core.List.{List}
 use lib.ListN.{length}
-use Rattle.record.specs.declared.order.Order.{Order}
+use Rattle.orders.specs.declared.order.Order.{Order}
 use Rattle.book.specs.Sound.{sound, ordersOf, bookOf, capacityOf}
 use Rattle.book.specs.Refusal.{changedUnless}
 use Rattle.book.proofs.Soundness.{OrdersSound, capacity-most, capacity-bytes}

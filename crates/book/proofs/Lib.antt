@@ -5,3 +5,9 @@ pub mod Restoring
 pub mod Settlement
 pub mod Refusing
 pub mod Changing
+pub mod Walking
+pub mod Checking
+pub mod Finding
+pub mod Placing
+pub mod Writing
+pub mod Committing

@@ -9,7 +9,7 @@ use lib.ListN.{length, take, drop, length-drop, take-append-drop}
 use lib.Seq.{length-take-le}
 use Rattle.units.specs.Lists.{all, flatMap, isZero}
 use Rattle.units.proofs.Tests.{and-true}
-use Rattle.record.specs.declared.order.Order.{Order}
+use Rattle.orders.specs.declared.order.Order.{Order}
 use Rattle.record.specs.Record.{encodeOrder, decodeOrder, recordSound}
 use Rattle.record.proofs.Numbers.{AreBytes, bytes-take, bytes-drop}
 use Rattle.record.proofs.Records.{encode-order}

@@ -10,8 +10,8 @@ use borrow.Author.Tests.{ltb-true, lt-ltb, not-true}
 use Rattle.units.specs.Lists.{any, filter, consIf, zipWith}
 use Rattle.units.proofs.Tests.{and-true, true-and, or-false}
 use Rattle.units.proofs.Members.{Every, every-append}
-use Rattle.record.specs.declared.order.Order.{Order}
-use Rattle.record.specs.Order.{Interest, settled, isResting}
+use Rattle.orders.specs.declared.order.Order.{Order}
+use Rattle.orders.specs.Order.{Interest, settled, isResting}
 use Rattle.record.proofs.Orders.{OrderSound, order-facts}
 use Rattle.record.proofs.Settling.{settled-side, settled-number, settled-price, settled-setter, settled-sound}
 use Rattle.book.specs.Sound.{rising, sameSetter, settersSound}

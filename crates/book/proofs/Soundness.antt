@@ -11,8 +11,8 @@ use Rattle.units.specs.Lists.{all, isZero}
 use Rattle.units.proofs.Tests.{and-true}
 use Rattle.units.proofs.Members.{Every, every-member}
 use Rattle.units.proofs.Facts.{chain-true, true-chain}
-use Rattle.record.specs.declared.order.Order.{Order}
-use Rattle.record.specs.Order.{minimumOf, sizeOf}
+use Rattle.orders.specs.declared.order.Order.{Order}
+use Rattle.orders.specs.Order.{minimumOf, sizeOf}
 use Rattle.record.specs.Record.{decodeOrder, recordSound}
 use Rattle.record.proofs.Orders.{OrderSound, order-facts}
 use Rattle.record.proofs.Records.{order-sound}

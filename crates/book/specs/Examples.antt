@@ -6,10 +6,10 @@ use mathlib.Core.List.{List, [], _∷_, _++_}
 use lib.ListN.{length, take, drop, set, replicate}
 use lib.Dec.{eqb}
 use Rattle.units.specs.Lists.{all, sameNumbers}
-use Rattle.record.specs.declared.order.Side.{Side}
-use Rattle.record.specs.declared.order.Side.the-variants.{Buy, Sell}
-use Rattle.record.specs.declared.order.Kind.the-variants.{Displayed}
-use Rattle.record.specs.declared.order.Order.{Order}
+use Rattle.orders.specs.declared.order.Side.{Side}
+use Rattle.orders.specs.declared.order.Side.the-variants.{Buy, Sell}
+use Rattle.orders.specs.declared.order.Kind.the-variants.{Displayed}
+use Rattle.orders.specs.declared.order.Order.{Order}
 use Rattle.record.specs.Codec.{encode, decode}
 use Rattle.record.specs.Record.{numbersOf, orderOf, numbersSound}
 use Rattle.book.specs.Sound.{sound, ordersOf, bookOf}

@@ -1,4 +1,5 @@
 pub mod Sound
+pub mod Change
 pub mod Refusal
 pub mod Lookup
 pub mod Examples

@@ -5,8 +5,8 @@ use mathlib.Core.List.{List, [], _∷_}
 use lib.ListN.{length, take, drop}
 use lib.Dec.{eqb}
 use Rattle.units.specs.Lists.{any, orZero}
-use Rattle.record.specs.declared.order.Order.{Order}
-use Rattle.record.specs.Order.{numberInRange}
+use Rattle.orders.specs.declared.order.Order.{Order}
+use Rattle.orders.specs.Order.{numberInRange}
 use Rattle.book.specs.declared.Checked.{Checked}
 use Rattle.book.specs.declared.Found.{Found}
 use Rattle.book.specs.Sound.{recordBytes, ordersOf}

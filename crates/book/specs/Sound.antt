@@ -5,9 +5,9 @@ use mathlib.Core.List.{List, [], _∷_, _++_, map}
 use lib.ListN.{length, getD, take, drop, replicate}
 use lib.Dec.{leb, ltb, eqb}
 use Rattle.units.specs.Lists.{all, any, flatMap, isZero}
-use Rattle.record.specs.declared.order.Order.{Order}
+use Rattle.orders.specs.declared.order.Order.{Order}
 use Rattle.record.specs.Codec.{Form, formBytes}
-use Rattle.record.specs.Order.{sideNumber, priceOf}
+use Rattle.orders.specs.Order.{sideNumber, priceOf}
 use Rattle.record.specs.Record.{orderForm, encodeOrder, decodeOrder, recordSound}
 
 -- a book has room for at most 256 orders
@@ -76,6 +76,10 @@ module _ (f : Form) where
   abbrev pub bookIn : ℕ → List Order → List ℕ
   bookIn capacity os = flatMap (encodeOrder f) os ++ replicate (formBytes f * (capacity - length os)) 0
 
+  -- the orders of the first n records
+  abbrev pub firstOrdersIn : ℕ → List ℕ → List Order
+  firstOrdersIn n s = map (decodeOrder f) (firstRecords n s)
+
 -- the form of a book's records: 32 bytes, so a book is 0 to 8,192 bytes
 abbrev pub form : Form
 form = orderForm
@@ -94,3 +98,6 @@ bookOf capacity os = bookIn form capacity os
 
 abbrev pub capacityOf : List ℕ → ℕ
 capacityOf s = capacityIn form s
+
+abbrev pub firstOrders : ℕ → List ℕ → List Order
+firstOrders n s = firstOrdersIn form n s

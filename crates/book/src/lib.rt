@@ -1,4 +1,5 @@
-// A book of orders in a lent buffer of records.
+// A book of orders in a lent buffer of records: what its calls answer, and its records one by one.
+pub mod records;
 
 // What check answers.
 #[repr(C)]

@@ -10,15 +10,16 @@ use Rattle.units.specs.Lists.{all, flatMap, sameNumbers}
 use Rattle.sharing.specs.Round.{goesRound, round}
 use Rattle.sharing.specs.Lots.{lotSharing}
 use Rattle.sharing.specs.Setter.{besideSetter, setterSharing}
-use Rattle.record.specs.declared.order.Order.{Order}
+use Rattle.orders.specs.declared.order.Order.{Order}
 use Rattle.record.specs.declared.execution.Execution.{Execution}
 use Rattle.record.specs.Codec.{encode, decode}
-use Rattle.record.specs.Order.{minimumOf, sizeOf, withInterest, settled}
+use Rattle.orders.specs.Order.{minimumOf, sizeOf, withInterest, settled}
 use Rattle.record.specs.Record.{numbersOf, orderOf, numbersSound}
 use Rattle.record.specs.Execution.{executionBytes, encodeExecution}
 use Rattle.book.specs.Sound.{recordBytes, sound, ordersOf, bookOf}
 use Rattle.book.specs.Refusal.{Changed}
-use Rattle.entry.specs.Add.{AddRequest, requested, setsPrice, added, addCall}
+use Rattle.entry.specs.declared.admission.AddRequest.{AddRequest}
+use Rattle.entry.specs.Add.{requested, setsPrice, added, addCall}
 use Rattle.matching.specs.Levels.{priceLevels}
 use Rattle.matching.specs.Paragraph.{partOf}
 use Rattle.matching.specs.Take.{allocationAt, allocationsAt, allocationsOver, allocations, executionsOf, lossesOf, outcome}

@@ -11,11 +11,11 @@ use Rattle.units.specs.Lists.{all}
 use Rattle.units.specs.Lots.{roundLot}
 use Rattle.units.proofs.Members.{every-member, member-every, all-member, none-member}
 use Rattle.units.proofs.Facts.{chain-true}
-use Rattle.record.specs.declared.order.Side.{Side}
-use Rattle.record.specs.declared.order.Side.the-variants.{Buy, Sell}
-use Rattle.record.specs.declared.order.Order.{Order}
-use Rattle.record.specs.Order.{sideNumber, sideOf, kindOf, isDisplayed, priceOf, interestOf}
-use Rattle.record.specs.Trading.{isOpposite, isPricedBetter}
+use Rattle.orders.specs.declared.order.Side.{Side}
+use Rattle.orders.specs.declared.order.Side.the-variants.{Buy, Sell}
+use Rattle.orders.specs.declared.order.Order.{Order}
+use Rattle.orders.specs.Order.{sideNumber, sideOf, kindOf, isDisplayed, priceOf, interestOf}
+use Rattle.orders.specs.Trading.{isOpposite, isPricedBetter}
 use Rattle.record.proofs.Orders.{OrderSound, order-facts}
 use Rattle.book.specs.Sound.{sameSetter, sound, ordersOf, capacityOf}
 use Rattle.book.proofs.Soundness.{OrdersSound, orders-sound}
@@ -23,7 +23,8 @@ use Rattle.book.proofs.Settlement.{append-sound}
 use Rattle.book.proofs.Refusing.{Accepted, accepted}
 use Rattle.book.proofs.Changing.{changed-orders, changed-sound, changed-length}
 use Rattle.entry.proofs.Requests.{requested-sound}
-use Rattle.entry.specs.Add.{AddRequest, requestInRange, requested, beats, setsPrice, isStale, addRefusals, added, addCall}
+use Rattle.entry.specs.declared.admission.AddRequest.{AddRequest}
+use Rattle.entry.specs.Add.{requestInRange, requested, beats, setsPrice, isStale, addRefusals, added, addCall}
 
 -- a strictly better price is another price
 apart : (a b : Side) (p r : ℕ) → (isOpposite a b || false || isPricedBetter a p r) ≡ true → (eqb (sideNumber b) (sideNumber a) && eqb r p) ≡ false
@@ -75,32 +76,34 @@ module _ (lot : ℕ) (q : AddRequest) (os : List Order) where
 
 -- An accepted add.
 module _ (q : AddRequest) (s : List ℕ) (e : addCall q s .refusal ≡ 0) where
-  call : Accepted (addRefusals q (capacityOf s) (ordersOf s)) s
+  -- its book is sound, and none of its refusals holds
+  pub add-accepted : Accepted (addRefusals q (capacityOf s) (ordersOf s)) s
   unfolding addCall
-  call = accepted (addRefusals q (capacityOf s) (ordersOf s)) s refl e
+  add-accepted = accepted (addRefusals q (capacityOf s) (ordersOf s)) s refl e
 
   -- the orders that it leaves are sound
   pub add-orders-sound : OrdersSound (added roundLot q (ordersOf s))
   add-orders-sound =
-      added-sound roundLot q (ordersOf s) (orders-sound s (call .book)) (not-false (requestInRange q) (call .ofCall .0)) (call .ofBook .0)
+      let a = add-accepted in
+      added-sound roundLot q (ordersOf s) (orders-sound s (a .book)) (not-false (requestInRange q) (a .ofCall .0)) (a .ofBook .0)
 
   room : length (added roundLot q (ordersOf s)) ≤ capacityOf s
   unfolding added
   room =
       let n = length-append (ordersOf s) (requested q (sets roundLot q (ordersOf s)) ∷ []) in
-      omega (arith, leb-false (capacityOf s) (length (ordersOf s)) (call .ofBook .1 .1 .0))
+      omega (arith, leb-false (capacityOf s) (length (ordersOf s)) (add-accepted .ofBook .1 .1 .0))
 
   -- the book has the new order last
   pub add-orders : ordersOf (addCall q s .book) ≡ added roundLot q (ordersOf s)
   unfolding addCall
-  add-orders = changed-orders (addCall q s .refusal) s (added roundLot q (ordersOf s)) e (call .book) add-orders-sound room
+  add-orders = changed-orders (addCall q s .refusal) s (added roundLot q (ordersOf s)) e (add-accepted .book) add-orders-sound room
 
   -- the book is sound
   pub add-sound : sound (addCall q s .book) ≡ true
   unfolding addCall
-  add-sound = changed-sound (addCall q s .refusal) s (added roundLot q (ordersOf s)) e (call .book) add-orders-sound room
+  add-sound = changed-sound (addCall q s .refusal) s (added roundLot q (ordersOf s)) e (add-accepted .book) add-orders-sound room
 
   -- the book is as long as before
   pub add-length : length (addCall q s .book) ≡ length s
   unfolding addCall
-  add-length = changed-length (addCall q s .refusal) s (added roundLot q (ordersOf s)) e (call .book) add-orders-sound room
+  add-length = changed-length (addCall q s .refusal) s (added roundLot q (ordersOf s)) e (add-accepted .book) add-orders-sound room

@@ -1,3 +1,6 @@
 pub mod Requests
 pub mod Adding
 pub mod Reducing
+pub mod Comparing
+pub mod AddPlan
+pub mod ReducePlan

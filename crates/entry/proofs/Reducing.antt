@@ -7,8 +7,8 @@ use native.Mathlib.Omega.{arith}
 use lib.ListN.{length}
 use Rattle.units.specs.Lists.{filter, zipWith}
 use Rattle.units.proofs.Members.{Every}
-use Rattle.record.specs.declared.order.Order.{Order}
-use Rattle.record.specs.Order.{Interest, noInterest, interestOf, settled, isResting}
+use Rattle.orders.specs.declared.order.Order.{Order}
+use Rattle.orders.specs.Order.{Interest, noInterest, interestOf, settled, isResting}
 use Rattle.record.proofs.Orders.{OrderSound}
 use Rattle.record.proofs.Settling.{settled-nothing}
 use Rattle.book.specs.Sound.{sound, ordersOf, capacityOf}
@@ -39,16 +39,18 @@ module _ (n shares : ℕ) where
 
   -- An accepted reduce.
   module _ (s : List ℕ) (e : reduceCall n shares s .refusal ≡ 0) where
-    call : Accepted (reduceRefusals n shares (ordersOf s)) s
+    -- its book is sound, and none of its refusals holds
+    pub reduce-accepted : Accepted (reduceRefusals n shares (ordersOf s)) s
     unfolding reduceCall
-    call = accepted (reduceRefusals n shares (ordersOf s)) s refl e
+    reduce-accepted = accepted (reduceRefusals n shares (ordersOf s)) s refl e
 
     settling : reduced n shares (ordersOf s) ≡ filter isResting (zipWith settled (map reductionOf (ordersOf s)) (ordersOf s))
-    settling = reduced-settled (ordersOf s) (orders-sound s (call .book) .each)
+    settling = reduced-settled (ordersOf s) (orders-sound s (reduce-accepted .book) .each)
 
     -- the orders that it leaves are sound
     pub reduce-orders-sound : OrdersSound (reduced n shares (ordersOf s))
-    reduce-orders-sound = subst⁻¹ OrdersSound settling (settle-sound (map reductionOf (ordersOf s)) (ordersOf s) (orders-sound s (call .book)))
+    reduce-orders-sound =
+        subst⁻¹ OrdersSound settling (settle-sound (map reductionOf (ordersOf s)) (ordersOf s) (orders-sound s (reduce-accepted .book)))
 
     room : length (reduced n shares (ordersOf s)) ≤ capacityOf s
     room = omega (arith, ap length settling, settle-fewer (map reductionOf (ordersOf s)) (ordersOf s), orders-fit s)
@@ -56,14 +58,17 @@ module _ (n shares : ℕ) where
     -- the book has the orders with the named one reduced
     pub reduce-orders : ordersOf (reduceCall n shares s .book) ≡ reduced n shares (ordersOf s)
     unfolding reduceCall
-    reduce-orders = changed-orders (reduceCall n shares s .refusal) s (reduced n shares (ordersOf s)) e (call .book) reduce-orders-sound room
+    reduce-orders =
+        changed-orders (reduceCall n shares s .refusal) s (reduced n shares (ordersOf s)) e (reduce-accepted .book) reduce-orders-sound room
 
     -- the book is sound
     pub reduce-sound : sound (reduceCall n shares s .book) ≡ true
     unfolding reduceCall
-    reduce-sound = changed-sound (reduceCall n shares s .refusal) s (reduced n shares (ordersOf s)) e (call .book) reduce-orders-sound room
+    reduce-sound =
+        changed-sound (reduceCall n shares s .refusal) s (reduced n shares (ordersOf s)) e (reduce-accepted .book) reduce-orders-sound room
 
     -- the book is as long as before
     pub reduce-length : length (reduceCall n shares s .book) ≡ length s
     unfolding reduceCall
-    reduce-length = changed-length (reduceCall n shares s .refusal) s (reduced n shares (ordersOf s)) e (call .book) reduce-orders-sound room
+    reduce-length =
+        changed-length (reduceCall n shares s .refusal) s (reduced n shares (ordersOf s)) e (reduce-accepted .book) reduce-orders-sound room

@@ -6,12 +6,13 @@ use mathlib.Core.List.{List, [], _∷_}
 use lib.Dec.{eqb}
 use Rattle.units.specs.Lists.{orZero, isZero}
 use Rattle.units.proofs.Facts.{true-chain}
-use Rattle.record.specs.declared.order.Kind.the-variants.{Displayed, NonDisplayed, MinimumQuantity}
-use Rattle.record.specs.Order.{kindOf, isDisplayed}
+use Rattle.orders.specs.declared.order.Kind.the-variants.{Displayed, NonDisplayed, MinimumQuantity}
+use Rattle.orders.specs.Order.{kindOf, isDisplayed}
 use Rattle.record.specs.Record.{orderOf, numbersSound}
 use Rattle.record.proofs.Rows.{setter-of}
 use Rattle.record.proofs.Orders.{OrderSound, row-sound}
-use Rattle.entry.specs.Add.{AddRequest, requestInRange, requested}
+use Rattle.entry.specs.declared.admission.AddRequest.{AddRequest}
+use Rattle.entry.specs.Add.{requestInRange, requested}
 
 module _ (q : AddRequest) where
   -- the numbers that are asked for, in the places of a record

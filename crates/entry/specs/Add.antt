@@ -6,23 +6,15 @@ use lib.ListN.{length}
 use lib.Dec.{leb}
 use Rattle.units.specs.Lists.{all, any, inRange}
 use Rattle.units.specs.Lots.{roundLot}
-use Rattle.record.specs.declared.order.Order.{Order}
-use Rattle.record.specs.Order.{sideOf, kindOf, minimumOf, isDisplayed, priceOf, interestOf, allShares}
-use Rattle.record.specs.Order.{numberInRange, priceInRange, sharesInRange, minimumInRange}
-use Rattle.record.specs.Trading.{isOpposite, isPricedBetter, isTradable, asTaker}
+use Rattle.orders.specs.declared.order.Order.{Order}
+use Rattle.orders.specs.Order.{sideOf, kindOf, minimumOf, isDisplayed, priceOf, interestOf, allShares}
+use Rattle.orders.specs.Order.{numberInRange, priceInRange, sharesInRange, minimumInRange}
+use Rattle.orders.specs.Trading.{isOpposite, isPricedBetter, isTradable, asTaker}
+use Rattle.entry.specs.declared.admission.AddRequest.{AddRequest}
 use Rattle.book.specs.Sound.{ordersOf, bookOf, capacityOf}
 use Rattle.book.specs.Refusal.{Refusals, refuse, refusalOf, Changed, changedUnless}
 
--- the numbers that add is given
-pub record AddRequest : Type 0 where
-  pub side : ℕ
-  pub kind : ℕ
-  pub number : ℕ
-  pub price : ℕ
-  pub size : ℕ
-  pub minimum : ℕ
-
--- they are in their ranges, the minimum by the kind
+-- the numbers that add is given are in their ranges, the minimum by the kind
 abbrev pub requestInRange : AddRequest → Bool
 requestInRange q =
     inRange 1 2 (q .side) && inRange 1 3 (q .kind) && numberInRange (q .number) && priceInRange (q .price)

@@ -7,7 +7,7 @@ use lib.ListN.{getD, set, replicate}
 use lib.Dec.{eqb}
 use Rattle.units.specs.Lists.{all, sameNumbers}
 use Rattle.record.specs.Codec.{encode, decode}
-use Rattle.record.specs.Order.{withInterest, settled}
+use Rattle.orders.specs.Order.{withInterest, settled}
 use Rattle.record.specs.Record.{numbersOf, orderOf, numbersSound}
 use Rattle.book.specs.Sound.{sound, ordersOf, bookOf}
 use Rattle.book.specs.Refusal.{Changed}

@@ -1,3 +1,4 @@
 pub mod Add
 pub mod Reduce
+pub mod Plan
 pub mod Examples

@@ -4,8 +4,8 @@ use mathlib.Core.Bool.{Bool, cond, not, _&&_}
 use mathlib.Core.List.{List, [], _∷_, map}
 use lib.Dec.{ltb}
 use Rattle.units.specs.Lists.{any, filter}
-use Rattle.record.specs.declared.order.Order.{Order}
-use Rattle.record.specs.Order.{Interest, interest, interestOf, allShares, settled, isResting, numberInRange, sharesInRange}
+use Rattle.orders.specs.declared.order.Order.{Order}
+use Rattle.orders.specs.Order.{Interest, interest, interestOf, allShares, settled, isResting, numberInRange, sharesInRange}
 use Rattle.book.specs.Sound.{ordersOf, bookOf, capacityOf}
 use Rattle.book.specs.Refusal.{Refusals, refuse, refusalOf, Changed, changedUnless}
 use Rattle.book.specs.Lookup.{hasNumber, isUnknown}

@@ -12,8 +12,8 @@ use Rattle.sharing.proofs.Ranks.{Rising}
 use Rattle.sharing.proofs.Filled.{Filled, round-filled}
 use Rattle.sharing.proofs.LotSharing.{lots-filled}
 use Rattle.sharing.proofs.SetterSharing.{setter-filled}
-use Rattle.record.specs.declared.order.Order.{Order}
-use Rattle.record.specs.declared.order.Taker.{Taker}
+use Rattle.orders.specs.declared.order.Order.{Order}
+use Rattle.orders.specs.declared.order.Taker.{Taker}
 use Rattle.book.specs.Sound.{rising, settersSound}
 use Rattle.matching.specs.declared.Algorithm.{Algorithm}
 use Rattle.matching.specs.declared.Algorithm.the-variants.{PriceTime, ProRata, PriceSetter}

@@ -17,10 +17,10 @@ use Rattle.sharing.proofs.Ranks.{Rising}
 use Rattle.sharing.proofs.LotSharing.{lotShare, lots-least, lots-most, lots-within}
 use Rattle.sharing.proofs.SetterAndOthers.{setter-number, others-total}
 use Rattle.sharing.proofs.SetterSharing.{keepsGuarantee, setterShare, setter-plain, setter-kept, kept-means, plain-means, other-least, other-most, other-within}
-use Rattle.record.specs.declared.order.Order.{Order}
+use Rattle.orders.specs.declared.order.Order.{Order}
 use Rattle.record.specs.declared.execution.Execution.{Execution}
-use Rattle.record.specs.Order.{priceOf}
-use Rattle.record.specs.Trading.{withinLimit}
+use Rattle.orders.specs.Order.{priceOf}
+use Rattle.orders.specs.Trading.{withinLimit}
 use Rattle.book.specs.Sound.{rising, settersSound}
 use Rattle.matching.specs.declared.Algorithm.{Algorithm}
 use Rattle.matching.specs.declared.Algorithm.the-variants.{PriceTime, ProRata, PriceSetter}

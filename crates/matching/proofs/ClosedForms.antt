@@ -11,8 +11,8 @@ use Rattle.sharing.specs.Lots.{divided, lotSharing}
 use Rattle.sharing.specs.Setter.{setterSharing}
 use Rattle.sharing.proofs.Ranks.{Rising, by-time, by-size}
 use Rattle.sharing.proofs.Closed.{ahead, closedLots, closedSetter, round-closed, minimum-closed, lots-closed, setter-closed}
-use Rattle.record.specs.declared.order.Order.{Order}
-use Rattle.record.specs.declared.order.Taker.{Taker}
+use Rattle.orders.specs.declared.order.Order.{Order}
+use Rattle.orders.specs.declared.order.Taker.{Taker}
 use Rattle.book.specs.Sound.{rising}
 use Rattle.matching.specs.declared.Algorithm.{Algorithm}
 use Rattle.matching.specs.declared.Algorithm.the-variants.{PriceTime, ProRata, PriceSetter}

@@ -14,7 +14,7 @@ use Rattle.units.proofs.Members.{Every, every-member, every-weaken}
 use Rattle.units.proofs.Totals.{total-same, total-flat}
 use Rattle.sharing.specs.Rank.{Part}
 use Rattle.sharing.proofs.Filled.{Each, more, each-map}
-use Rattle.record.specs.declared.order.Order.{Order}
+use Rattle.orders.specs.declared.order.Order.{Order}
 use Rattle.book.specs.Sound.{rising}
 use Rattle.matching.specs.Paragraph.{paragraphNumber}
 use Rattle.matching.specs.Take.{Allocation, used, executionsBy, executionsOf}

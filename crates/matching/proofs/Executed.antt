@@ -7,9 +7,9 @@ use lib.Dec.{ltb}
 use Rattle.units.specs.Lists.{consIf, total}
 use Rattle.units.proofs.Totals.{total-member}
 use Rattle.units.proofs.Members.{Every, every-member, member-every, every-append, every-flat}
-use Rattle.record.specs.declared.order.Order.{Order}
-use Rattle.record.specs.declared.order.Taker.{Taker}
-use Rattle.record.specs.Order.{priceOf}
+use Rattle.orders.specs.declared.order.Order.{Order}
+use Rattle.orders.specs.declared.order.Taker.{Taker}
+use Rattle.orders.specs.Order.{priceOf}
 use Rattle.record.proofs.Orders.{OrderSound, order-facts}
 use Rattle.record.proofs.Executions.{ExecutionFits}
 use Rattle.book.proofs.Soundness.{OrdersSound}

@@ -14,14 +14,14 @@ use Rattle.units.proofs.Totals.{total-map, total-same}
 use Rattle.sharing.specs.Rank.{Part, partSize}
 use Rattle.sharing.specs.Setter.{isSetter}
 use Rattle.sharing.proofs.SetterAndOthers.{OneSetter}
-use Rattle.record.specs.declared.order.Side.{Side}
-use Rattle.record.specs.declared.order.Side.the-variants.{Buy, Sell}
-use Rattle.record.specs.declared.order.Kind.{Kind}
-use Rattle.record.specs.declared.order.Kind.the-variants.{Displayed, NonDisplayed, MinimumQuantity}
-use Rattle.record.specs.declared.order.Order.{Order}
-use Rattle.record.specs.declared.order.Taker.{Taker}
-use Rattle.record.specs.Order.{Visibility, shown, hidden, interestBy, interestOf, sideNumber, sharesOf, isMinimumQuantity, minimumOf, priceOf, sizeOf}
-use Rattle.record.specs.Trading.{isOpposite, isOppositeOf}
+use Rattle.orders.specs.declared.order.Side.{Side}
+use Rattle.orders.specs.declared.order.Side.the-variants.{Buy, Sell}
+use Rattle.orders.specs.declared.order.Kind.{Kind}
+use Rattle.orders.specs.declared.order.Kind.the-variants.{Displayed, NonDisplayed, MinimumQuantity}
+use Rattle.orders.specs.declared.order.Order.{Order}
+use Rattle.orders.specs.declared.order.Taker.{Taker}
+use Rattle.orders.specs.Order.{Visibility, shown, hidden, interestBy, interestOf, sideNumber, sharesOf, isMinimumQuantity, minimumOf, priceOf, sizeOf}
+use Rattle.orders.specs.Trading.{isOpposite, isOppositeOf}
 use Rattle.book.specs.Sound.{sameSetter, settersSound}
 use Rattle.matching.specs.declared.Algorithm.{Algorithm}
 use Rattle.matching.specs.declared.Algorithm.the-variants.{PriceTime, ProRata, PriceSetter}

@@ -15,10 +15,10 @@ use Rattle.units.proofs.Totals.{total-append}
 use Rattle.units.proofs.Members.{Every, every-member, every-weaken}
 use Rattle.sharing.specs.Rank.{Part, partSize}
 use Rattle.sharing.proofs.Filled.{Met, met-down, Filled}
-use Rattle.record.specs.declared.order.Order.{Order}
-use Rattle.record.specs.declared.order.Taker.{Taker}
-use Rattle.record.specs.Order.{Visibility, sharesOf, onlyOf, interestOf, isMinimumQuantity, priceOf}
-use Rattle.record.specs.Trading.{isOppositeOf, isBetter}
+use Rattle.orders.specs.declared.order.Order.{Order}
+use Rattle.orders.specs.declared.order.Taker.{Taker}
+use Rattle.orders.specs.Order.{Visibility, sharesOf, onlyOf, interestOf, isMinimumQuantity, priceOf}
+use Rattle.orders.specs.Trading.{isOppositeOf, isBetter}
 use Rattle.book.specs.Sound.{rising}
 use Rattle.matching.specs.declared.Algorithm.{Algorithm}
 use Rattle.matching.specs.declared.Paragraph.{Paragraph}

@@ -8,12 +8,12 @@ use lib.Dec.{eqb}
 use borrow.Author.Tests.{ltb-true, ltb-false, lt-ltb, le-ltb, eqb-true, eqb-false}
 use Rattle.units.specs.Lists.{filter}
 use Rattle.units.proofs.Members.{Every, every-member, member-every, every-weaken, filter-member, member-filter}
-use Rattle.record.specs.declared.order.Side.{Side}
-use Rattle.record.specs.declared.order.Side.the-variants.{Buy, Sell}
-use Rattle.record.specs.declared.order.Order.{Order}
-use Rattle.record.specs.declared.order.Taker.{Taker}
-use Rattle.record.specs.Order.{priceOf}
-use Rattle.record.specs.Trading.{isBetter, isTradable}
+use Rattle.orders.specs.declared.order.Side.{Side}
+use Rattle.orders.specs.declared.order.Side.the-variants.{Buy, Sell}
+use Rattle.orders.specs.declared.order.Order.{Order}
+use Rattle.orders.specs.declared.order.Taker.{Taker}
+use Rattle.orders.specs.Order.{priceOf}
+use Rattle.orders.specs.Trading.{isBetter, isTradable}
 use Rattle.matching.specs.Levels.{insertPrice, priceLevels}
 
 -- a price better than a better one is better

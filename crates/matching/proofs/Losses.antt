@@ -10,8 +10,8 @@ use borrow.Author.Tests.{eq-eqb, ne-eqb}
 use Rattle.units.specs.Lists.{total, zipWith}
 use Rattle.units.proofs.Tests.{and-true}
 use Rattle.units.proofs.Members.{every-member}
-use Rattle.record.specs.declared.order.Order.{Order}
-use Rattle.record.specs.Order.{Visibility, shown, hidden, Interest, noInterest, sharesOf, onlyOf, together}
+use Rattle.orders.specs.declared.order.Order.{Order}
+use Rattle.orders.specs.Order.{Visibility, shown, hidden, Interest, noInterest, sharesOf, onlyOf, together}
 use Rattle.book.specs.Sound.{rising}
 use Rattle.matching.specs.Take.{Allocation, lossesOf}
 use Rattle.matching.proofs.Entries.{shareIn, orders-above, absent}

@@ -18,10 +18,10 @@ use Rattle.sharing.proofs.Ranks.{Rising, differ-ranked, mem-ranked}
 use Rattle.sharing.proofs.Turns.{turn, taking-le}
 use Rattle.sharing.proofs.LotSharing.{lotShare, lots-map, lots-zero}
 use Rattle.sharing.proofs.SetterSharing.{setterShare, setter-map, setters-zero}
-use Rattle.record.specs.declared.order.Order.{Order}
-use Rattle.record.specs.declared.order.Taker.{Taker}
-use Rattle.record.specs.Order.{Visibility, sharesOf, interestOf, minimumOf, priceOf}
-use Rattle.record.specs.Trading.{isOppositeOf}
+use Rattle.orders.specs.declared.order.Order.{Order}
+use Rattle.orders.specs.declared.order.Taker.{Taker}
+use Rattle.orders.specs.Order.{Visibility, sharesOf, interestOf, minimumOf, priceOf}
+use Rattle.orders.specs.Trading.{isOppositeOf}
 use Rattle.book.specs.Sound.{rising}
 use Rattle.matching.specs.declared.Algorithm.{Algorithm}
 use Rattle.matching.specs.declared.Algorithm.the-variants.{PriceTime, ProRata, PriceSetter}

@@ -8,7 +8,7 @@ use lib.Dec.{leb, ltb, eqb}
 use borrow.Author.Tests.{leb-true, leb-false, le-ltb, lt-ltb, not-true}
 use Rattle.units.specs.Lists.{all}
 use Rattle.units.proofs.Members.{Every, all-member}
-use Rattle.record.specs.Order.{Visibility, shown, hidden, sharesOf, onlyOf}
+use Rattle.orders.specs.Order.{Visibility, shown, hidden, sharesOf, onlyOf}
 use Rattle.matching.specs.declared.Algorithm.{Algorithm}
 use Rattle.matching.specs.declared.Algorithm.the-variants.{PriceTime, ProRata, PriceSetter}
 use Rattle.matching.specs.declared.Paragraph.{Paragraph}

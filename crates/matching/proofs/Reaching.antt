@@ -8,11 +8,11 @@ use Rattle.units.specs.Lists.{orZero, total}
 use Rattle.units.proofs.Tests.{pick-zero, pick-add}
 use Rattle.units.proofs.Members.{Every, every-member, member-every}
 use Rattle.units.proofs.Totals.{total-append}
-use Rattle.record.specs.declared.order.Order.{Order}
-use Rattle.record.specs.declared.order.Taker.{Taker}
+use Rattle.orders.specs.declared.order.Order.{Order}
+use Rattle.orders.specs.declared.order.Taker.{Taker}
 use Rattle.record.specs.declared.execution.Execution.{Execution}
-use Rattle.record.specs.Order.{priceOf}
-use Rattle.record.specs.Trading.{isBetter, isTradable}
+use Rattle.orders.specs.Order.{priceOf}
+use Rattle.orders.specs.Trading.{isBetter, isTradable}
 use Rattle.book.specs.Sound.{rising}
 use Rattle.matching.specs.declared.Algorithm.{Algorithm}
 use Rattle.matching.specs.declared.Paragraph.{Paragraph}

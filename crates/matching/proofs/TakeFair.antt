@@ -9,10 +9,10 @@ use Rattle.units.specs.Lists.{inRange, orZero}
 use Rattle.units.specs.Lots.{roundLot}
 use Rattle.units.proofs.Totals.{total-map}
 use Rattle.units.proofs.Facts.{chain-true, range-true}
-use Rattle.record.specs.declared.order.Order.{Order}
+use Rattle.orders.specs.declared.order.Order.{Order}
 use Rattle.record.specs.declared.execution.Execution.{Execution}
-use Rattle.record.specs.Order.{priceInRange, sharesInRange}
-use Rattle.record.specs.Trading.{isBetter}
+use Rattle.orders.specs.Order.{priceInRange, sharesInRange}
+use Rattle.orders.specs.Trading.{isBetter}
 use Rattle.record.specs.Execution.{executionBytes, executionsIn}
 use Rattle.record.proofs.Executions.{asWritten, executions-in}
 use Rattle.book.specs.Sound.{ordersOf}

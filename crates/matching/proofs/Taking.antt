@@ -14,7 +14,7 @@ use Rattle.book.proofs.Soundness.{OrdersSound, orders-fit, orders-sound}
 use Rattle.book.proofs.Settlement.{settle-sound, settle-fewer}
 use Rattle.book.proofs.Refusing.{Accepted, accepted}
 use Rattle.book.proofs.Changing.{changed-orders, changed-sound, changed-length}
-use Rattle.record.specs.declared.order.Order.{Order}
+use Rattle.orders.specs.declared.order.Order.{Order}
 use Rattle.matching.specs.declared.Algorithm.{Algorithm}
 use Rattle.matching.specs.declared.incoming.Incoming.{Incoming}
 use Rattle.matching.specs.Paragraph.{algorithmOf}

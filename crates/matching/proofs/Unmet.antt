@@ -10,11 +10,11 @@ use Rattle.units.specs.Lists.{total, zipWith}
 use Rattle.units.proofs.Tests.{and-true, T-true, true-T}
 use Rattle.units.proofs.Members.{filter-member}
 use Rattle.sharing.proofs.Filled.{Met, full, unmet}
-use Rattle.record.specs.declared.order.Kind.{Kind}
-use Rattle.record.specs.declared.order.Kind.the-variants.{Displayed, NonDisplayed, MinimumQuantity}
-use Rattle.record.specs.declared.order.Order.{Order}
-use Rattle.record.specs.Order.{Visibility, shown, hidden, Interest, sharesOf, interestBy, interestOf, sizeFrom, settled, isResting, isMinimumQuantity, minimumOf, priceOf, sizeOf}
-use Rattle.record.specs.Trading.{isOppositeOf, withinLimit, isTradable}
+use Rattle.orders.specs.declared.order.Kind.{Kind}
+use Rattle.orders.specs.declared.order.Kind.the-variants.{Displayed, NonDisplayed, MinimumQuantity}
+use Rattle.orders.specs.declared.order.Order.{Order}
+use Rattle.orders.specs.Order.{Visibility, shown, hidden, Interest, sharesOf, interestBy, interestOf, sizeFrom, settled, isResting, isMinimumQuantity, minimumOf, priceOf, sizeOf}
+use Rattle.orders.specs.Trading.{isOppositeOf, withinLimit, isTradable}
 use Rattle.record.proofs.Settling.{settled-side, settled-price, settled-size, settled-minimum, settled-minimum-quantity}
 use Rattle.book.proofs.Soundness.{OrdersSound, order-shares}
 use Rattle.matching.specs.declared.Algorithm.{Algorithm}

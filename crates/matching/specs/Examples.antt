@@ -10,12 +10,12 @@ use Rattle.units.specs.Lists.{all, sameNumbers}
 use Rattle.sharing.specs.Round.{goesRound, round}
 use Rattle.sharing.specs.Lots.{lotSharing}
 use Rattle.sharing.specs.Setter.{besideSetter, setterSharing}
-use Rattle.record.specs.declared.order.Side.the-variants.{Buy, Sell}
-use Rattle.record.specs.declared.order.Kind.{Kind}
-use Rattle.record.specs.declared.order.Kind.the-variants.{Displayed, NonDisplayed, MinimumQuantity}
-use Rattle.record.specs.declared.order.Order.{Order}
+use Rattle.orders.specs.declared.order.Side.the-variants.{Buy, Sell}
+use Rattle.orders.specs.declared.order.Kind.{Kind}
+use Rattle.orders.specs.declared.order.Kind.the-variants.{Displayed, NonDisplayed, MinimumQuantity}
+use Rattle.orders.specs.declared.order.Order.{Order}
 use Rattle.record.specs.Codec.{encode, decode}
-use Rattle.record.specs.Order.{sizeOf, withInterest, settled}
+use Rattle.orders.specs.Order.{sizeOf, withInterest, settled}
 use Rattle.record.specs.Record.{numbersOf, orderOf, numbersSound}
 use Rattle.book.specs.Sound.{sound, ordersOf, bookOf}
 use Rattle.matching.specs.declared.Algorithm.the-variants.{PriceTime, ProRata, PriceSetter}

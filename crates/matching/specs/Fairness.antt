@@ -7,10 +7,10 @@ use mathlib.Core.List.{List, List·Memᴰ}
 use lib.Dec.{T, leb, eqb}
 use Rattle.units.specs.Lists.{total, orZero}
 use Rattle.units.specs.Lots.{roundLot, roundDown}
-use Rattle.record.specs.declared.order.Order.{Order}
+use Rattle.orders.specs.declared.order.Order.{Order}
 use Rattle.record.specs.declared.execution.Execution.{Execution}
-use Rattle.record.specs.Order.{interestOf, isMinimumQuantity, minimumOf, priceOf}
-use Rattle.record.specs.Trading.{isOppositeOf, isTradable, isBetter, withinLimit}
+use Rattle.orders.specs.Order.{interestOf, isMinimumQuantity, minimumOf, priceOf}
+use Rattle.orders.specs.Trading.{isOppositeOf, isTradable, isBetter, withinLimit}
 use Rattle.record.specs.Execution.{executionsIn}
 use Rattle.book.specs.Sound.{ordersOf}
 use Rattle.matching.specs.declared.Algorithm.{Algorithm}

@@ -4,11 +4,11 @@ use mathlib.Core.Bool.{cond}
 use mathlib.Core.List.{List, [], _∷_, foldr}
 use lib.Dec.{eqb}
 use Rattle.units.specs.Lists.{filter}
-use Rattle.record.specs.declared.order.Side.{Side}
-use Rattle.record.specs.declared.order.Order.{Order}
-use Rattle.record.specs.declared.order.Taker.{Taker}
-use Rattle.record.specs.Order.{priceOf}
-use Rattle.record.specs.Trading.{isBetter, isTradable}
+use Rattle.orders.specs.declared.order.Side.{Side}
+use Rattle.orders.specs.declared.order.Order.{Order}
+use Rattle.orders.specs.declared.order.Taker.{Taker}
+use Rattle.orders.specs.Order.{priceOf}
+use Rattle.orders.specs.Trading.{isBetter, isTradable}
 
 -- a price put in its place; a price that is there already isn't put in again
 abbrev pub insertPrice : Side → ℕ → List ℕ → List ℕ

@@ -7,10 +7,10 @@ use Rattle.sharing.specs.Rank.{Part, noPart, partSize, byTime, larger, smallerM
 use Rattle.sharing.specs.Round.{round}
 use Rattle.sharing.specs.Lots.{divided, lotSharing}
 use Rattle.sharing.specs.Setter.{setterSharing}
-use Rattle.record.specs.declared.order.Order.{Order}
-use Rattle.record.specs.declared.order.Taker.{Taker}
-use Rattle.record.specs.Order.{Visibility, shown, hidden, sharesOf, interestOf, isMinimumQuantity, minimumOf, priceOf}
-use Rattle.record.specs.Trading.{isOppositeOf}
+use Rattle.orders.specs.declared.order.Order.{Order}
+use Rattle.orders.specs.declared.order.Taker.{Taker}
+use Rattle.orders.specs.Order.{Visibility, shown, hidden, sharesOf, interestOf, isMinimumQuantity, minimumOf, priceOf}
+use Rattle.orders.specs.Trading.{isOppositeOf}
 use Rattle.matching.specs.declared.Algorithm.{Algorithm}
 use Rattle.matching.specs.declared.Algorithm.the-variants.{PriceTime, ProRata, PriceSetter}
 use Rattle.matching.specs.declared.Paragraph.{Paragraph}

@@ -6,9 +6,9 @@ use lib.ListN.{length, drop}
 use lib.Dec.{ltb}
 use Rattle.units.specs.Lists.{flatMap, inRange, orZero}
 use Rattle.units.specs.Lots.{roundLot}
-use Rattle.record.specs.declared.order.Order.{Order}
+use Rattle.orders.specs.declared.order.Order.{Order}
 use Rattle.record.specs.declared.execution.Execution.{Execution}
-use Rattle.record.specs.Order.{sideOf, priceInRange, sharesInRange}
+use Rattle.orders.specs.Order.{sideOf, priceInRange, sharesInRange}
 use Rattle.record.specs.Execution.{executionBytes, encodeExecution}
 use Rattle.book.specs.Sound.{ordersOf, bookOf, capacityOf}
 use Rattle.book.specs.Refusal.{Refusals, refuse, refusalOf, isAccepted}

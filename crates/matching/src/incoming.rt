@@ -1,5 +1,5 @@
 // The incoming order.
-use record::order::Taker;
+use orders::order::Taker;
 use units::Shares;
 ghost use mathlib.Core.Path.{_≡_};
 ghost use Rattle.matching.specs.Incoming.{executed};

@@ -5,3 +5,5 @@ pub mod Orders
 pub mod Records
 pub mod Settling
 pub mod Executions
+pub mod Reading
+pub mod Pasting

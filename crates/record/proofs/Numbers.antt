@@ -4,7 +4,7 @@ use mathlib.Core.Path.{_≡_, refl, ap, _∙_}
 use mathlib.Core.List.{List, [], _∷_, _++_, append-assoc}
 use native.Mathlib.Omega.{arith}
 use native.Mathlib.Nat.{pow-suc}
-use lib.ListN.{length, take, drop, length-append, length-drop, take-append-drop}
+use lib.ListN.{length, getD, take, drop, length-append, length-drop, take-append-drop}
 use lib.Seq.{take-at, drop-at, length-take-le}
 use Rattle.units.specs.Lists.{sum}
 use Rattle.units.proofs.Members.{Every}
@@ -20,6 +20,11 @@ Fits (w ∷ ws) (n ∷ ns) = (n < 256 ^ w) × Fits ws ns
 -- each is a byte
 abbrev pub AreBytes : List ℕ → Type 0
 AreBytes = Every (λ b. b < 256)
+
+-- numbers that are below 256 at every place are bytes
+pub are-bytes : (s : List ℕ) → ((k : ℕ) → getD s k 0 < 256) → AreBytes s
+are-bytes [] h = tt
+are-bytes (x ∷ s) h = (h 0, are-bytes s (λ k. h (suc k)))
 
 -- the first bytes of bytes are bytes
 pub bytes-take : (w : ℕ) (s : List ℕ) → AreBytes s → AreBytes (take w s)

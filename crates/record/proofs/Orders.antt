@@ -9,13 +9,13 @@ use lib.Dec.{eqb}
 use Rattle.units.specs.Lists.{inRange, orZero, isZero}
 use Rattle.units.proofs.Tests.{pick-least}
 use Rattle.units.proofs.Facts.{range-true, true-range}
-use Rattle.record.specs.declared.order.Side.{Side}
-use Rattle.record.specs.declared.order.Side.the-variants.{Buy, Sell}
-use Rattle.record.specs.declared.order.Kind.{Kind}
-use Rattle.record.specs.declared.order.Kind.the-variants.{Displayed, NonDisplayed, MinimumQuantity}
-use Rattle.record.specs.declared.order.Order.{Order}
-use Rattle.record.specs.Order.{sideNumber, kindNumber, minimumOf, isDisplayed, isMinimumQuantity, priceOf, sizeOf}
-use Rattle.record.specs.Order.{minimumInRange}
+use Rattle.orders.specs.declared.order.Side.{Side}
+use Rattle.orders.specs.declared.order.Side.the-variants.{Buy, Sell}
+use Rattle.orders.specs.declared.order.Kind.{Kind}
+use Rattle.orders.specs.declared.order.Kind.the-variants.{Displayed, NonDisplayed, MinimumQuantity}
+use Rattle.orders.specs.declared.order.Order.{Order}
+use Rattle.orders.specs.Order.{sideNumber, kindNumber, minimumOf, isDisplayed, isMinimumQuantity, priceOf, sizeOf}
+use Rattle.orders.specs.Order.{minimumInRange}
 use Rattle.record.specs.Record.{orderForm, numbersOf, orderOf, numbersSound}
 use Rattle.record.proofs.Numbers.{Fits}
 use Rattle.record.proofs.Rows.{numbers-order, passed, all-passed}

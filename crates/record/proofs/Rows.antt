@@ -11,13 +11,13 @@ use borrow.Author.Tests.{eqb-true}
 use Rattle.units.specs.Lists.{inRange, orZero, isZero}
 use Rattle.units.proofs.Members.{Every}
 use Rattle.units.proofs.Facts.{Given, chain-true, true-chain, range-true}
-use Rattle.record.specs.declared.order.Side.{Side}
-use Rattle.record.specs.declared.order.Side.the-variants.{Buy, Sell}
-use Rattle.record.specs.declared.order.Kind.{Kind}
-use Rattle.record.specs.declared.order.Kind.the-variants.{Displayed, NonDisplayed, MinimumQuantity}
-use Rattle.record.specs.declared.order.Order.{Order}
-use Rattle.record.specs.Order.{sideNumber, sideOf, kindNumber, kindOf, minimumOf}
-use Rattle.record.specs.Order.{numberInRange, priceInRange, sharesInRange, minimumInRange}
+use Rattle.orders.specs.declared.order.Side.{Side}
+use Rattle.orders.specs.declared.order.Side.the-variants.{Buy, Sell}
+use Rattle.orders.specs.declared.order.Kind.{Kind}
+use Rattle.orders.specs.declared.order.Kind.the-variants.{Displayed, NonDisplayed, MinimumQuantity}
+use Rattle.orders.specs.declared.order.Order.{Order}
+use Rattle.orders.specs.Order.{sideNumber, sideOf, kindNumber, kindOf, minimumOf}
+use Rattle.orders.specs.Order.{numberInRange, priceInRange, sharesInRange, minimumInRange}
 use Rattle.record.specs.Record.{numbersOf, orderOf, numbersSound}
 
 -- a side and a kind are read back from their numbers

@@ -5,11 +5,11 @@ use mathlib.Core.Bool.{true}
 use native.Mathlib.Omega.{arith}
 use native.Mathlib.Nat.{sub-zero}
 use borrow.Author.Tests.{ltb-true}
-use Rattle.record.specs.declared.order.Kind.{Kind}
-use Rattle.record.specs.declared.order.Kind.the-variants.{Displayed, NonDisplayed, MinimumQuantity}
-use Rattle.record.specs.declared.order.Order.{Order}
-use Rattle.record.specs.Order.{minimumOf, isDisplayed, isMinimumQuantity, sizeOf}
-use Rattle.record.specs.Order.{Interest, noInterest, less, interestBy, sizeFrom, kindFrom, withInterest, settled, isResting}
+use Rattle.orders.specs.declared.order.Kind.{Kind}
+use Rattle.orders.specs.declared.order.Kind.the-variants.{Displayed, NonDisplayed, MinimumQuantity}
+use Rattle.orders.specs.declared.order.Order.{Order}
+use Rattle.orders.specs.Order.{minimumOf, isDisplayed, isMinimumQuantity, sizeOf}
+use Rattle.orders.specs.Order.{Interest, noInterest, less, interestBy, sizeFrom, kindFrom, withInterest, settled, isResting}
 use Rattle.record.proofs.Orders.{OrderSound, order-facts, facts-order}
 
 module _ (loss : Interest) (o : Order) where

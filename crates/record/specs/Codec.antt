@@ -26,6 +26,10 @@ abbrev pub split : List ℕ → List ℕ → List ℕ
 split [] s = []
 split (w ∷ ws) s = fromBytes (take w s) ∷ split ws (drop w s)
 
+-- bytes put in the place of others, from a place on
+abbrev pub replaced : ℕ → List ℕ → List ℕ → List ℕ
+replaced at new s = take at s ++ (new ++ drop (at + length new) s)
+
 -- a form of record
 pub record Form : Type 0 where
   pub mark : List ℕ

@@ -1,17 +1,14 @@
 -- Worked values of the two forms, computed by the checker.
 use Prim.Native.Nat.{ℕ}
 use mathlib.Core.Path.{_≡_, refl}
-use mathlib.Core.Bool.{Bool, true, false, not}
+use mathlib.Core.Bool.{Bool, true, not}
 use mathlib.Core.List.{List, [], _∷_}
 use lib.ListN.{set}
 use lib.Dec.{eqb}
 use Rattle.units.specs.Lists.{all, sameNumbers}
-use Rattle.record.specs.declared.order.Side.the-variants.{Sell}
-use Rattle.record.specs.declared.order.Kind.the-variants.{MinimumQuantity}
-use Rattle.record.specs.declared.order.Order.{Order}
+use Rattle.orders.specs.declared.order.Order.{Order}
 use Rattle.record.specs.declared.execution.Execution.{Execution}
 use Rattle.record.specs.Codec.{formBytes, encode, decode}
-use Rattle.record.specs.Order.{interest, withInterest, settled}
 use Rattle.record.specs.Record.{orderForm, numbersOf, orderOf, numbersSound, encodeOrder, decodeOrder, recordSound}
 use Rattle.record.specs.Execution.{executionBytes, encodeExecution, executionOf, decodeExecution}
 
@@ -23,14 +20,7 @@ setter =
 
 -- order 1, a minimum quantity sell of 500 with minimum 400
 minimum : Order
-minimum = record {
-  side = Sell;
-  kind = MinimumQuantity (record { 0 = 400 });
-  number = 1;
-  price = record { 0 = 100000 };
-  size = record { 0 = 500 };
-  setter = false;
-}
+minimum = orderOf (2 ∷ 3 ∷ 1 ∷ 100000 ∷ 500 ∷ 400 ∷ 0 ∷ 0 ∷ 0 ∷ 0 ∷ [])
 
 execution : Execution
 execution = record { number = 3; price = record { 0 = 100000 }; shares = record { 0 = 500 }; paragraph = 2 }
@@ -54,11 +44,9 @@ values =
     not (recordSound orderForm (set setter 20 2)) ∷
     not (recordSound orderForm (set setter 3 2)) ∷
     not (recordSound orderForm (set setter 31 1)) ∷
-    -- 450 shares lost: the minimum becomes the 50 that are left
-    sameNumbers (numbersOf (settled (interest 0 450) minimum)) (2 ∷ 3 ∷ 1 ∷ 100000 ∷ 50 ∷ 50 ∷ 0 ∷ 0 ∷ 0 ∷ 0 ∷ []) ∷
     sameNumbers (encodeExecution execution) (0x45 ∷ 0x58 ∷ 0 ∷ 0 ∷ 3 ∷ 0 ∷ 0 ∷ 0 ∷ 0xa0 ∷ 0x86 ∷ 1 ∷ 0 ∷ 0xf4 ∷ 1 ∷ 0 ∷ 0 ∷ []) ∷
     sameNumbers (encodeExecution (decodeExecution (encodeExecution execution))) (encodeExecution execution) ∷ []
 
 worked : all (λ b. b) values ≡ true
-unfolding values setter minimum execution encode decode numbersOf orderOf numbersSound executionOf withInterest settled
+unfolding values setter minimum execution encode decode numbersOf orderOf numbersSound executionOf
 worked = refl

@@ -1,6 +1,5 @@
 pub mod Codec
-pub mod Order
-pub mod Trading
 pub mod Record
+pub mod Names
 pub mod Execution
 pub mod Examples

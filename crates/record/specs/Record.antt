@@ -5,10 +5,10 @@ use mathlib.Core.List.{List, [], _∷_}
 use lib.ListN.{getD}
 use lib.Dec.{eqb}
 use Rattle.units.specs.Lists.{inRange, orZero, isZero}
-use Rattle.record.specs.declared.order.Order.{Order}
+use Rattle.orders.specs.declared.order.Order.{Order}
 use Rattle.record.specs.Codec.{Form, encode, decode, hasMark}
-use Rattle.record.specs.Order.{sideNumber, sideOf, kindNumber, kindOf, minimumOf, priceOf, sizeOf}
-use Rattle.record.specs.Order.{numberInRange, priceInRange, sharesInRange, minimumInRange}
+use Rattle.orders.specs.Order.{sideNumber, sideOf, kindNumber, kindOf, minimumOf, priceOf, sizeOf}
+use Rattle.orders.specs.Order.{numberInRange, priceInRange, sharesInRange, minimumInRange}
 
 -- mark 4F 42 hex; side, kind, order number, price, size, minimum, setter mark; bytes 21 to 31
 abbrev pub orderForm : Form

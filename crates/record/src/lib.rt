@@ -1,3 +1,4 @@
-// Orders and executions as values, and their bytes. Knows nothing of books.
+// Orders and executions as bytes. Knows nothing of books.
+pub mod bytes;
 pub mod execution;
-pub mod order;
+pub mod order_record;

@@ -1,11 +1,11 @@
 -- Tests as facts: long chains of tests, ranges of numbers, and lists with the same numbers.
 use Prim.Native.Nat.{ℕ, _≤_}
-use mathlib.Core.Path.{_≡_, refl}
-use mathlib.Core.Bool.{Bool, true, _&&_, false≢true}
+use mathlib.Core.Path.{_≡_, refl, sym, ap, _∙_}
+use mathlib.Core.Bool.{Bool, true, false, _&&_, and-assoc, false≢true}
 use mathlib.Core.List.{List, [], _∷_}
 use lib.Dec.{leb, eqb}
 use borrow.Author.Tests.{leb-true, le-leb, eqb-true, eq-eqb}
-use Rattle.units.specs.Lists.{inRange, sameNumbers}
+use Rattle.units.specs.Lists.{all, inRange, sameNumbers}
 use Rattle.units.proofs.Tests.{and-true, true-and}
 use Rattle.units.proofs.Members.{Every}
 
@@ -21,6 +21,17 @@ chain-true b (c ∷ cs) e =
     let h = chain-true (b && c) cs e in
     let a = and-true b c (h .0) in
     (a .0, (a .1, h .1))
+
+-- a test in front of a chain is one test more
+pub and-chain : (a b : Bool) (cs : List Bool) → (a && chain b cs) ≡ chain (a && b) cs
+and-chain a b [] = refl
+and-chain a b (c ∷ cs) = and-chain a (b && c) cs ∙ ap (λ d. chain d cs) (sym (and-assoc a b c))
+
+-- a chain is its first test and all the others
+pub chain-all : (b : Bool) (cs : List Bool) → chain b cs ≡ (b && all (λ c. c) cs)
+chain-all true [] = refl
+chain-all false [] = refl
+chain-all b (c ∷ cs) = chain-all (b && c) cs ∙ and-assoc b c (all (λ d. d) cs)
 
 -- what follows once each test holds
 abbrev pub Given : List Bool → Type 0 → Type 0

@@ -2,3 +2,4 @@ pub mod Tests
 pub mod Totals
 pub mod Members
 pub mod Facts
+pub mod Scanning

@@ -1,6 +1,6 @@
 -- What holds of every element of a list, and tests over lists as facts about members.
 use mathlib.Core.Path.{_≡_, refl, sym, ap, _∙_, subst⁻¹}
-use mathlib.Core.Bool.{Bool, true, false, _||_, true≢false, false≢true}
+use mathlib.Core.Bool.{Bool, true, false, _&&_, _||_, and-assoc, true≢false, false≢true}
 use mathlib.Core.List.{List, [], _∷_, _++_, List·Memᴰ, List·Memᴰ·head, List·Memᴰ·tail, List·Memᴰ·not-nil}
 use Rattle.units.specs.Lists.{all, any, filter, consIf, flatMap}
 use Rattle.units.proofs.Tests.{and-true, or-false, or-true}
@@ -36,6 +36,10 @@ module _ {A : Type 0} where
   pub every-split : (P : A → Type 0) (xs ys : List A) → Every P (xs ++ ys) → Every P xs × Every P ys
   every-split P [] ys e = (tt, e)
   every-split P (x ∷ xs) ys e = let h = every-split P xs ys (e .1) in ((e .0, h .0), h .1)
+
+  pub all-append : (p : A → Bool) (xs ys : List A) → all p (xs ++ ys) ≡ (all p xs && all p ys)
+  all-append p [] ys = refl
+  all-append p (x ∷ xs) ys = ap (λ b. p x && b) (all-append p xs ys) ∙ sym (and-assoc (p x) (all p xs) (all p ys))
 
   pub all-member : (p : A → Bool) (xs : List A) → all p xs ≡ true → (x : A) → List·Memᴰ x xs → p x ≡ true
   all-member p [] e x m = absurd (List·Memᴰ·not-nil m)

@@ -1,7 +1,7 @@
 -- Laws of totals, and of lists made number by number.
 use Prim.Native.Nat.{ℕ, _+_, _*_, _≤_}
 use mathlib.Core.Path.{_≡_, refl, sym, ap, _∙_, subst⁻¹}
-use mathlib.Core.List.{List, [], _∷_, _++_, map, List·Memᴰ, List·Memᴰ·head, List·Memᴰ·tail, List·Memᴰ·not-nil}
+use mathlib.Core.List.{List, [], _∷_, _++_, map, append-assoc, List·Memᴰ, List·Memᴰ·head, List·Memᴰ·tail, List·Memᴰ·not-nil}
 use native.Mathlib.Omega.{arith}
 use native.Mathlib.Nat.{zero-add, zero-mul, add-mul}
 use Rattle.units.specs.Lists.{total, flatMap, zipWith}
@@ -54,6 +54,11 @@ module _ {A B : Type 0} where
   pub map-same : {f g : A → B} (xs : List A) → ((x : A) → List·Memᴰ x xs → f x ≡ g x) → map f xs ≡ map g xs
   map-same [] h = refl
   map-same (x ∷ xs) h = rw (h x (List·Memᴰ·head refl), map-same xs (λ y m. h y (List·Memᴰ·tail m)))
+
+  -- lists of the elements of two lists, one behind the other
+  pub flat-append : (f : A → List B) (xs ys : List A) → flatMap f (xs ++ ys) ≡ flatMap f xs ++ flatMap f ys
+  flat-append f [] ys = refl
+  flat-append f (x ∷ xs) ys = rw (flat-append f xs ys) (sym (append-assoc (f x) (flatMap f xs) (flatMap f ys)))
 
   -- over lists one behind another
   pub total-flat : (f : B → ℕ) (g : A → List B) (xs : List A) → total f (flatMap g xs) ≡ total (λ x. total f (g x)) xs

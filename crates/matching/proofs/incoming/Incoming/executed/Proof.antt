@@ -1,4 +1,4 @@
--- `Incoming::executed` meets its contract: what `difference` leaves is the size of the smaller order. Assumes nothing.
+-- `matching::incoming::Incoming::executed` meets its contract: what `difference` leaves is the size of the smaller order.
 use Prim.Native.Nat.{ℕ}
 use mathlib.Core.Path.{ap}
 use borrow.Author.Needs.{needs}

@@ -3,11 +3,11 @@ use Prim.Native.Nat.{ℕ, _+_, _-_, min}
 use mathlib.Core.Bool.{Bool, true, false, cond}
 use lib.Dec.{ltb, eqb}
 use Rattle.units.specs.Lists.{inRange}
-use Rattle.record.specs.declared.order.Side.{Side}
-use Rattle.record.specs.declared.order.Side.the-variants.{Buy, Sell}
-use Rattle.record.specs.declared.order.Kind.{Kind}
-use Rattle.record.specs.declared.order.Kind.the-variants.{Displayed, NonDisplayed, MinimumQuantity}
-use Rattle.record.specs.declared.order.Order.{Order}
+use Rattle.orders.specs.declared.order.Side.{Side}
+use Rattle.orders.specs.declared.order.Side.the-variants.{Buy, Sell}
+use Rattle.orders.specs.declared.order.Kind.{Kind}
+use Rattle.orders.specs.declared.order.Kind.the-variants.{Displayed, NonDisplayed, MinimumQuantity}
+use Rattle.orders.specs.declared.order.Order.{Order}
 
 -- 1 buy, 2 sell
 abbrev pub sideNumber : Side → ℕ

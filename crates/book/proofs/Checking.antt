@@ -1,0 +1,144 @@
+-- Soundness in the parts that check looks at, by the number of orders that it counts, and what its answer says.
+use Prim.Native.Nat.{ℕ, zero, suc, _+_, _*_, _%_, _≤_}
+use mathlib.Core.Path.{_≡_, refl, sym, ap, _∙_}
+use mathlib.Core.Bool.{Bool, true, false, cond, _&&_}
+use mathlib.Core.List.{List, [], _∷_, map}
+use native.Mathlib.Omega.{arith}
+use lib.ListN.{length, take, drop, length-map, length-drop, take-append-drop}
+use lib.Seq.{drop-drop}
+use lib.Dec.{leb}
+use borrow.Author.Tests.{eqb-true, leb-true}
+use Rattle.units.specs.Lists.{all, isZero}
+use Rattle.units.proofs.Tests.{and-true}
+use Rattle.units.proofs.Members.{all-append}
+use Rattle.record.specs.Record.{decodeOrder, recordSound}
+use Rattle.book.specs.declared.Checked.{Checked}
+use Rattle.book.specs.Sound.{mostOrders, form, recordBytes, rising, settersSound, isUnused, occupied, behind}
+use Rattle.book.specs.Sound.{firstRecords, recordsIn, sound, ordersOf, capacityOf, firstOrders}
+use Rattle.book.specs.Lookup.{checkCall}
+use Rattle.book.proofs.Soundness.{orders-fit, capacity-most, capacity-bytes}
+
+-- of the first n records the occupied ones come first
+occupied-among : (n : ℕ) (s : List ℕ) → occupied (firstRecords form n s) ≡ firstRecords form (length (occupied (firstRecords form n s))) s
+occupied-among zero s = refl
+occupied-among (suc n) s = go (isUnused r) (occupied-among n (drop recordBytes s))
+  where
+    r : List ℕ
+    r = take recordBytes s
+
+    rs : List (List ℕ)
+    rs = firstRecords form n (drop recordBytes s)
+
+    go : (b : Bool) → occupied rs ≡ firstRecords form (length (occupied rs)) (drop recordBytes s)
+        → cond b [] (r ∷ occupied rs) ≡ firstRecords form (length (cond b [] (r ∷ occupied rs))) s
+    go true ih = refl
+    go false ih = ap (λ l. r ∷ l) ih
+
+-- records are all zero where their bytes are
+zero-records : (n : ℕ) (s : List ℕ) → length s ≡ recordBytes * n → all (all isZero) (firstRecords form n s) ≡ all isZero s
+zero-records zero [] l = refl
+zero-records zero (x ∷ s) l = absurd (omega arith)
+zero-records (suc n) s l =
+    let r = take recordBytes s in
+    let t = drop recordBytes s in
+    ap (λ b. all isZero r && b) (zero-records n t (length-drop recordBytes s ∙ omega arith))
+    ∙ sym (all-append isZero r t)
+    ∙ ap (all isZero) (take-append-drop recordBytes s)
+
+-- the records behind the occupied ones are zero where the bytes behind these are
+zero-behind : (n : ℕ) (s : List ℕ) → length s ≡ recordBytes * n
+    → all (all isZero) (behind (firstRecords form n s)) ≡ all isZero (drop (recordBytes * length (occupied (firstRecords form n s))) s)
+zero-behind zero [] l = refl
+zero-behind zero (x ∷ s) l = absurd (omega arith)
+zero-behind (suc n) s l = go (isUnused r) (zero-behind n t (length-drop recordBytes s ∙ omega arith))
+  where
+    r : List ℕ
+    r = take recordBytes s
+
+    t : List ℕ
+    t = drop recordBytes s
+
+    rs : List (List ℕ)
+    rs = firstRecords form n t
+
+    go : (b : Bool) → all (all isZero) (behind rs) ≡ all isZero (drop (recordBytes * length (occupied rs)) t)
+        → all (all isZero) (cond b (r ∷ rs) (behind rs)) ≡ all isZero (drop (recordBytes * length (cond b [] (r ∷ occupied rs))) s)
+    go true ih = zero-records (suc n) s l
+    go false ih =
+        let k = length (occupied rs) in
+        let e : recordBytes + recordBytes * k ≡ recordBytes * suc k = omega arith in
+        ih ∙ ap (all isZero) (drop-drop (recordBytes * k) recordBytes s ∙ ap (λ i. drop i s) e)
+
+module _ (s : List ℕ) where
+  -- the occupied records are the first ones
+  pub occupied-first : occupied (recordsIn form s) ≡ firstRecords form (length (occupied (recordsIn form s))) s
+  occupied-first = occupied-among (capacityOf s) s
+
+  -- a book has as many orders as occupied records
+  pub orders-count : length (ordersOf s) ≡ length (occupied (recordsIn form s))
+  unfolding ordersOf
+  orders-count = length-map (occupied (recordsIn form s)) (decodeOrder form)
+
+  -- they are those of its first records
+  pub orders-first : ordersOf s ≡ firstOrders (length (ordersOf s)) s
+  unfolding ordersOf
+  orders-first = ap (map (decodeOrder form)) occupied-first ∙ ap (λ k. firstOrders k s) (sym orders-count)
+
+  -- the records behind the orders are zero where the bytes are
+  pub behind-zero : length s % 32 ≡ 0 → all (all isZero) (behind (recordsIn form s)) ≡ all isZero (drop (32 * length (occupied (recordsIn form s))) s)
+  behind-zero h = zero-behind (capacityOf s) s (omega arith)
+
+  -- a length that is no whole number of records, at most 256, is no sound book's
+  pub sound-length : (leb (length s) (mostOrders * recordBytes) && isZero (length s % recordBytes)) ≡ false → sound s ≡ false
+  unfolding sound
+  sound-length h = rw h
+
+  -- any other has at most 8,192 bytes
+  pub whole-most : (leb (length s) (mostOrders * recordBytes) && isZero (length s % recordBytes)) ≡ true → length s ≤ 8192
+  whole-most h = leb-true (length s) 8192 (and-true (leb (length s) (mostOrders * recordBytes)) (isZero (length s % recordBytes)) h .0)
+
+  -- the orders of a sound book lie in its bytes, and are at most 256
+  pub sound-fits : sound s ≡ true → (32 * length (ordersOf s) ≤ length s) × (length (ordersOf s) ≤ 256)
+  sound-fits e = omega (arith, orders-fit s, capacity-most s e, capacity-bytes s e)
+
+  -- check refuses an unsound book
+  pub check-unsound : sound s ≡ false → record { refusal = 2; orders = 0 } ≡ checkCall s
+  unfolding checkCall
+  check-unsound h = rw h
+
+  module _ (n : ℕ) (e : n ≡ length (occupied (recordsIn form s))) where
+    -- a whole number of records, at most 256, is a sound book where its first n and the bytes behind them pass these four tests
+    pub sound-parts : (leb (length s) (mostOrders * recordBytes) && isZero (length s % recordBytes)) ≡ true
+        → sound s
+        ≡ (all (recordSound form) (firstRecords form n s)
+        && all isZero (drop (32 * n) s)
+        && rising 0 (firstOrders n s)
+        && settersSound (firstOrders n s))
+    unfolding sound
+    sound-parts h =
+        let w = and-true (leb (length s) (mostOrders * recordBytes)) (isZero (length s % recordBytes)) h in
+        let z = behind-zero (eqb-true (length s % recordBytes) 0 (w .1)) in
+        rw (h, z, ← e, occupied-first, ← e)
+
+    -- check gives a sound book's number of orders
+    pub check-sound : sound s ≡ true → record { refusal = 0; orders = n } ≡ checkCall s
+    unfolding checkCall
+    check-sound h = rw (h, orders-count, e)
+
+  -- What check's answer says.
+  module _ (r : Checked) (q : r ≡ checkCall s) where
+    -- an accepted book is sound, and has so many orders
+    pub check-accepted : r .refusal ≡ 0 → (sound s ≡ true) × (r .orders ≡ length (ordersOf s))
+    check-accepted h = go (sound s) refl
+      where
+        go : (b : Bool) → sound s ≡ b → (sound s ≡ true) × (r .orders ≡ length (ordersOf s))
+        go true e = (e, ap (λ x. x .orders) (q ∙ sym (check-sound (length (ordersOf s)) orders-count e)))
+        go false e = absurd (omega (arith, ap (λ x. x .refusal) (q ∙ sym (check-unsound e))))
+
+    -- a refused one is not, and the refusal is 2
+    pub check-refused : (r .refusal ≡ 0 → ⊥) → (sound s ≡ false) × (r .refusal ≡ 2)
+    check-refused h = go (sound s) refl
+      where
+        go : (b : Bool) → sound s ≡ b → (sound s ≡ false) × (r .refusal ≡ 2)
+        go true e = absurd (h (ap (λ x. x .refusal) (q ∙ sym (check-sound (length (ordersOf s)) orders-count e))))
+        go false e = (e, ap (λ x. x .refusal) (q ∙ sym (check-unsound e)))

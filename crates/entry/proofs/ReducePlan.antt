@@ -1,0 +1,258 @@
+-- What reduce decides, way by way, and what the decision comes to.
+use Prim.Native.Nat.{ℕ, _+_, _≤_, _<_}
+use mathlib.Core.Path.{_≡_, refl, sym, ap, _∙_, subst}
+use mathlib.Core.Bool.{Bool, true, false, cond, not, _&&_, false≢true}
+use mathlib.Core.List.{List, [], _∷_, _++_, map}
+use native.Mathlib.Omega.{arith}
+use lib.ListN.{length, take, drop}
+use lib.Dec.{ltb}
+use borrow.Author.Tests.{lt-ltb, le-ltb, ne-eqb, eqb-true, eqb-false, not-false}
+use Rattle.units.specs.Lists.{any, filter, consIf}
+use Rattle.units.proofs.Tests.{and-true, true-and, false-and, and-false, or-false}
+use Rattle.units.proofs.Members.{Every}
+use Rattle.orders.specs.declared.order.Order.{Order}
+use Rattle.orders.specs.Order.{interestOf, allShares, sizeOf, isResting, sharesInRange, numberInRange}
+use Rattle.record.specs.Codec.{replaced}
+use Rattle.record.specs.Record.{encodeOrder, decodeOrder}
+use Rattle.record.proofs.Orders.{OrderSound, order-facts}
+use Rattle.book.specs.Sound.{form, sound, ordersOf, bookOf, capacityOf}
+use Rattle.book.specs.declared.Found.{Found}
+use Rattle.book.specs.Change.{withoutRecord}
+use Rattle.book.specs.Refusal.{refuse, firstRefusal, refusalOf, isAccepted}
+use Rattle.book.specs.Lookup.{hasNumber, isUnknown, findCall, foundPart}
+use Rattle.book.proofs.Soundness.{orders-sound}
+use Rattle.book.proofs.Refusing.{book-accepted}
+use Rattle.book.proofs.Placing.{Placed, any-placed, find-accepted, find-placed, find-start, find-inside, found-part, found}
+use Rattle.book.proofs.Writing.{write-at, remove-at}
+use Rattle.book.proofs.Committing.{Refuses, Writes, Removes, refuses}
+use Rattle.entry.specs.declared.reduction.Reduction.{Reduction}
+use Rattle.entry.specs.declared.reduction.Reduction.the-variants.{Refused, Kept, Gone}
+use Rattle.entry.specs.Reduce.{asksTooMuch, reduceRefusals, reducedIf, reduced, reduceCall}
+use Rattle.entry.specs.Plan.{reducedOrder, outcomeOf, reducePlan}
+use Rattle.entry.proofs.Reducing.{reduce-accepted}
+
+-- The orders that a reduce leaves.
+module _ (n shares : ℕ) where
+  -- what becomes of an order
+  abbrev each : Order → Order
+  each o = reducedIf (hasNumber n o) shares o
+
+  -- a sound order stays as it is unless it has the number
+  stays : (o : Order) (os : List Order) → OrderSound o → hasNumber n o ≡ false → filter isResting (each o ∷ os) ≡ o ∷ filter isResting os
+  stays o os h e = rw (e, lt-ltb 0 (sizeOf o) (order-facts o h .size-least))
+
+  all-stay : (os : List Order) → Every OrderSound os → any (hasNumber n) os ≡ false → filter isResting (map each os) ≡ os
+  all-stay [] h e = refl
+  all-stay (o ∷ os) h e =
+      let a = or-false (hasNumber n o) (any (hasNumber n) os) e in
+      stays o (map each os) (h .0) (a .0) ∙ ap (λ l. o ∷ l) (all-stay os (h .1) (a .1))
+
+  one-reduced : (before : List Order) (o : Order) (after : List Order) → Every OrderSound (before ++ (o ∷ after)) → any (hasNumber n) before ≡ false
+      → hasNumber n o ≡ true → any (hasNumber n) after ≡ false
+      → filter isResting (map each (before ++ (o ∷ after))) ≡ before ++ consIf (isResting (reducedOrder shares o)) (reducedOrder shares o) after
+  one-reduced [] o after h e f g = rw (f, all-stay after (h .1) g)
+  one-reduced (b ∷ before) o after h e f g =
+      let a = or-false (hasNumber n b) (any (hasNumber n) before) e in
+      stays b (map each (before ++ (o ∷ after))) (h .0) (a .0) ∙ ap (λ l. b ∷ l) (one-reduced before o after (h .1) (a .1) f g)
+
+  -- only the order of the number is reduced, and leaves without shares
+  pub reduced-at : (os : List Order) → Every OrderSound os → (p : Placed n os)
+      → reduced n shares os ≡ p .before ++ consIf (isResting (reducedOrder shares (p .order))) (reducedOrder shares (p .order)) (p .after)
+  unfolding reduced
+  reduced-at os h p =
+      ap (λ l. filter isResting (map each l)) (p .split)
+      ∙ one-reduced (p .before) (p .order) (p .after) (subst (Every OrderSound) (p .split) h) (p .others-before) (p .named) (p .others-after)
+
+  -- no other order is asked for too much
+  asked : (o : Order) → hasNumber n o ≡ false → asksTooMuch n shares o ≡ false
+  asked o e = false-and (ltb (allShares (interestOf o)) shares) e
+
+-- reduce is refused as find is, where the shares are in range
+as-find : (a c b u t : Bool) → c ≡ true → (firstRefusal (refuse 1 (not a) ∷ refuse 2 (not b) ∷ refuse 3 u ∷ []) ≡ 0 → ⊥)
+    → firstRefusal (refuse 1 (not (a && c)) ∷ refuse 2 (not b) ∷ refuse 3 u ∷ refuse 7 t ∷ [])
+    ≡ firstRefusal (refuse 1 (not a) ∷ refuse 2 (not b) ∷ refuse 3 u ∷ [])
+as-find a false b u t e h = absurd (false≢true e)
+as-find false true b u t e h = refl
+as-find true true false u t e h = refl
+as-find true true true true t e h = refl
+as-find true true true false t e h = absurd (h refl)
+
+-- The plan, in the order in which its refusals are checked.
+module _ (n shares : ℕ) (s : List ℕ) where
+  -- a number of shares out of its range
+  pub reduce-shares : sharesInRange shares ≡ false → Refused 1 ≡ reducePlan n shares s
+  unfolding reducePlan reduceCall
+  reduce-shares h = rw (and-false (numberInRange n) h)
+
+  module _ (h : sharesInRange shares ≡ true) where
+    not-found : (findCall n s .refusal ≡ 0 → ⊥) → reduceCall n shares s .refusal ≡ findCall n s .refusal
+    unfolding reduceCall findCall
+    not-found f =
+        let os = ordersOf s in
+        as-find (numberInRange n) (sharesInRange shares) (sound s) (isUnknown n os) (any (asksTooMuch n shares) os) h f
+
+    -- a find that is refused
+    reduce-not-found : (findCall n s .refusal ≡ 0 → ⊥) → reducePlan n shares s ≡ Refused (findCall n s .refusal)
+    unfolding reducePlan
+    reduce-not-found f = rw (not-found f, ne-eqb (findCall n s .refusal) 0 f)
+
+    module _ (e : findCall n s .refusal ≡ 0) (o : Order) (its : o ≡ decodeOrder form (take 32 (drop (findCall n s .start) s))) where
+      same-found : decodeOrder form (foundPart (findCall n s) s) ≡ o
+      same-found = ap (decodeOrder form) (found-part n s e) ∙ sym its
+
+      refusal : reduceCall n shares s .refusal ≡ cond (ltb (allShares (interestOf o)) shares) 7 0
+      unfolding reduceCall
+      refusal =
+          let a = find-accepted n s e in
+          let p = find-placed n s e in
+          let same = sym same-found ∙ found n s e in
+          let t = any-placed n (asksTooMuch n shares) (asked n shares) (ordersOf s) p in
+          rw (true-and (not-false (numberInRange n) (a .ofCall .0)) h, a .book, a .ofBook .0, t, p .named, same)
+
+      -- more shares than the order has
+      reduce-too-much : allShares (interestOf o) < shares → reducePlan n shares s ≡ Refused 7
+      unfolding reducePlan
+      reduce-too-much l = rw (refusal, lt-ltb (allShares (interestOf o)) shares l)
+
+      -- the order stays or leaves
+      reduce-done : shares ≤ allShares (interestOf o) → reducePlan n shares s ≡ outcomeOf (findCall n s .start) (reducedOrder shares o)
+      unfolding reducePlan
+      reduce-done l = rw (refusal, le-ltb (allShares (interestOf o)) shares l, same-found)
+
+-- The plan by what the code has computed: find's answer, the order that is read there, and that order reduced.
+module _ (n shares : ℕ) (s : List ℕ) (h : sharesInRange shares ≡ true) (f : Found) (q : f ≡ findCall n s) where
+  -- a find that is refused
+  pub find-refused : (f .refusal ≡ 0 → ⊥) → Refused (f .refusal) ≡ reducePlan n shares s
+  find-refused e = ap (λ x. Refused (x .refusal)) q ∙ sym (reduce-not-found n shares s h (λ z. e (ap (λ x. x .refusal) q ∙ z)))
+
+  module _ (e : f .refusal ≡ 0) where
+    accepts : findCall n s .refusal ≡ 0
+    accepts = sym (ap (λ x. x .refusal) q) ∙ e
+
+    -- a record is there
+    pub order-inside : f .start + 32 ≤ length s
+    order-inside = omega (arith, ap (λ x. x .start) q, find-inside n s accepts)
+
+    module _ (o : Order) (r : o ≡ decodeOrder form (take 32 (drop (f .start) s))) where
+      its : o ≡ decodeOrder form (take 32 (drop (findCall n s .start) s))
+      its = r ∙ ap (λ x. decodeOrder form (take 32 (drop (x .start) s))) q
+
+      -- more shares than the order has
+      pub too-much-refused : allShares (interestOf o) < shares → Refused 7 ≡ reducePlan n shares s
+      too-much-refused l = sym (reduce-too-much n shares s h accepts o its l)
+
+      -- the order stays or leaves
+      pub order-reduced : shares ≤ allShares (interestOf o) → (left : Order) → left ≡ reducedOrder shares o → outcomeOf (f .start) left ≡ reducePlan n shares s
+      order-reduced l left m = rw (m, q) (sym (reduce-done n shares s h accepts o its l))
+
+-- A plan by its refusal number, the place of the order's record, and the order as it is left.
+module _ (c place : ℕ) (left : Order) where
+  abbrev plan : Bool → Bool → Reduction
+  plan b r = cond b (cond r (Kept place left) (Gone place)) (Refused c)
+
+  -- a plan that refuses
+  refused : (r : ℕ) → Refused r ≡ plan (isAccepted c) (isResting left) → (r ≡ c) × (c ≡ 0 → ⊥)
+  refused r e = go (isAccepted c) (isResting left) refl e
+    where
+      go : (b t : Bool) → isAccepted c ≡ b → Refused r ≡ plan b t → (r ≡ c) × (c ≡ 0 → ⊥)
+      go true true f e = absurd (false≢true (cc))
+      go true false f e = absurd (false≢true (cc))
+      go false t f e = ((cc), eqb-false c 0 f)
+
+  -- a plan that keeps the order
+  keeps : (at : ℕ) (o : Order) → Kept at o ≡ plan (isAccepted c) (isResting left) → (c ≡ 0) × (at ≡ place) × (o ≡ left) × (isResting left ≡ true)
+  keeps at o e = go (isAccepted c) (isResting left) refl refl e
+    where
+      go : (b t : Bool) → isAccepted c ≡ b → isResting left ≡ t → Kept at o ≡ plan b t → (c ≡ 0) × (at ≡ place) × (o ≡ left) × (isResting left ≡ true)
+      go true true f g e = (eqb-true c 0 f, (cc), (cc), g)
+      go true false f g e = absurd (false≢true (cc))
+      go false t f g e = absurd (false≢true (cc))
+
+  -- a plan in which it leaves
+  leaves : (at : ℕ) → Gone at ≡ plan (isAccepted c) (isResting left) → (c ≡ 0) × (at ≡ place) × (isResting left ≡ false)
+  leaves at e = go (isAccepted c) (isResting left) refl refl e
+    where
+      go : (b t : Bool) → isAccepted c ≡ b → isResting left ≡ t → Gone at ≡ plan b t → (c ≡ 0) × (at ≡ place) × (isResting left ≡ false)
+      go true true f g e = absurd (false≢true (cc))
+      go true false f g e = (eqb-true c 0 f, (cc), g)
+      go false t f g e = absurd (false≢true (cc))
+
+-- What the plan comes to.
+module _ (n shares : ℕ) (s : List ℕ) where
+  -- the order as it is left
+  abbrev left : Order
+  left = reducedOrder shares (decodeOrder form (foundPart (findCall n s) s))
+
+  -- An accepted reduce.
+  module _ (e : reduceCall n shares s .refusal ≡ 0) where
+    finds : findCall n s .refusal ≡ 0
+    unfolding findCall
+    finds =
+        let a = reduce-accepted n shares s e in
+        let r = and-true (numberInRange n) (sharesInRange shares) (not-false (numberInRange n && sharesInRange shares) (a .ofCall .0)) in
+        rw (r .0, a .book, a .ofBook .0)
+
+    abbrev placed : Placed n (ordersOf s)
+    placed = find-placed n s finds
+
+    -- the orders that it leaves, by whether the order stays
+    remaining : (b : Bool) → isResting left ≡ b → placed .before ++ consIf b left (placed .after) ≡ reduced n shares (ordersOf s)
+    remaining b f =
+        let p = placed in
+        let a = reduced-at n shares (ordersOf s) (orders-sound s (reduce-accepted n shares s e .book) .each) p in
+        ap (λ t. p .before ++ consIf t left (p .after)) (sym f)
+        ∙ ap (λ o. p .before ++ consIf (isResting o) o (p .after)) (ap (reducedOrder shares) (found n s finds))
+        ∙ sym a
+
+    -- the book of them
+    after : (b : Bool) → isResting left ≡ b → bookOf (capacityOf s) (placed .before ++ consIf b left (placed .after)) ≡ reduceCall n shares s .book
+    unfolding reduceCall
+    after b f =
+        let t = bookOf (capacityOf s) (reduced n shares (ordersOf s)) in
+        ap (bookOf (capacityOf s)) (remaining b f) ∙ sym (book-accepted (reduceCall n shares s .refusal) s t e)
+
+    written : isResting left ≡ true → Writes (reduceCall n shares s) s (findCall n s .start) left
+    written f =
+        let h = reduce-accepted n shares s e .book in
+        let p = placed in
+        record {
+          refusal = e;
+          inside = find-inside n s finds;
+          book = λ b. ap (λ k. replaced k (encodeOrder form left) s) (find-start n s finds)
+              ∙ write-at s h b (p .before) (p .after) (p .order) (p .split) left
+              ∙ after true f;
+        }
+
+    removed : isResting left ≡ false → Removes (reduceCall n shares s) s (findCall n s .start)
+    removed f =
+        let h = reduce-accepted n shares s e .book in
+        let p = placed in
+        record {
+          refusal = e;
+          inside = find-inside n s finds;
+          book = λ b. ap (λ k. withoutRecord k s) (find-start n s finds)
+              ∙ remove-at s h b (p .before) (p .after) (p .order) (p .split)
+              ∙ after false f;
+        }
+
+  -- a reduce that is refused
+  pub plan-refused : (r : ℕ) → Refused r ≡ reducePlan n shares s → Refuses (reduceCall n shares s) s r
+  unfolding reducePlan reduceCall
+  plan-refused r e =
+      let c = refusalOf (reduceRefusals n shares (ordersOf s)) s in
+      let h = refused c (findCall n s .start) left r e in
+      rw (h .0) (refuses c s (bookOf (capacityOf s) (reduced n shares (ordersOf s))) (h .1))
+
+  -- a reduce that leaves the order with shares
+  pub plan-kept : (at : ℕ) (o : Order) → Kept at o ≡ reducePlan n shares s → Writes (reduceCall n shares s) s at o
+  unfolding reducePlan
+  plan-kept at o e =
+      let h = keeps (reduceCall n shares s .refusal) (findCall n s .start) left at o e in
+      rw (h .1, h .2) (written (h .0) (h .3))
+
+  -- a reduce that leaves it without
+  pub plan-gone : (at : ℕ) → Gone at ≡ reducePlan n shares s → Removes (reduceCall n shares s) s at
+  unfolding reducePlan
+  plan-gone at e =
+      let h = leaves (reduceCall n shares s .refusal) (findCall n s .start) left at e in
+      rw (h .1) (removed (h .0) (h .2))

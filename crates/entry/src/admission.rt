@@ -1,0 +1,146 @@
+// What add decides, from the numbers that it is given and a book that it only reads.
+use book::records;
+use book::records::RECORD_BYTES;
+use orders::order::Kind;
+use orders::order::Order;
+use orders::order::Side;
+use orders::range;
+use orders::trading;
+use units::Price;
+use units::Shares;
+ghost use mathlib.Core.Path.{_≡_};
+ghost use Prim.Native.Nat.{_*_, _≤_};
+ghost use lib.ListN.{length};
+ghost use Rattle.book.specs.Sound.{firstOrders};
+ghost use Rattle.entry.specs.Add.{requestInRange, requested, beats, couldTrade};
+ghost use Rattle.entry.specs.Plan.{standingOf, addPlan};
+
+// The numbers that add is given.
+pub struct AddRequest {
+    pub side: u32,
+    pub kind: u32,
+    pub number: u32,
+    pub price: u32,
+    pub size: u32,
+    pub minimum: u32,
+}
+
+// A refusal, or the order that comes in and where its record goes.
+pub enum Admission {
+    Refused(u32),
+    Admitted(usize, Order),
+}
+
+// How a new order stands to those of the book: whether its number is not above all of theirs, whether it could trade with one of them,
+// and whether it beats each.
+pub struct Standing {
+    pub stale: bool,
+    pub trades: bool,
+    pub beats: bool,
+}
+
+// Whether the numbers are in their ranges.
+fn in_range(q: AddRequest) -> bool
+    ensures { λ r. ⌜ r ≡ requestInRange q ⌝ }
+{
+    units::in_range(1, 2, q.side)
+        & units::in_range(1, 3, q.kind)
+        & range::number_in_range(q.number)
+        & range::price_in_range(q.price)
+        & range::shares_in_range(q.size)
+        & range::minimum_in_range(q.kind, q.size, q.minimum)
+}
+
+// The order that is asked for, with or without the setter mark.
+fn requested(q: AddRequest, setter: bool) -> Order
+    ensures { λ r. ⌜ r ≡ requested q setter ⌝ }
+{
+    Order {
+        side: Side::of(q.side),
+        kind: Kind::of(q.kind, q.minimum),
+        number: q.number,
+        price: Price(q.price),
+        size: Shares(q.size),
+        setter,
+    }
+}
+
+// Whether the new order could trade with a resting one: that is on the other side within its price, with no minimum above the new size.
+fn could_trade(new: Order, resting: Order) -> bool
+    ensures { λ r. ⌜ r ≡ couldTrade new resting ⌝ }
+{
+    let kind = resting.kind;
+    let minimum = kind.minimum();
+    let shares = new.shares();
+    trading::is_tradable(trading::as_taker(new), resting) & (minimum.0 <= shares.0)
+}
+
+// Whether a resting order keeps no setter mark from the new one: it is no displayed order of its side, or the new one's price is better.
+fn beats(new: Order, resting: Order) -> bool
+    ensures { λ r. ⌜ r ≡ beats new resting ⌝ }
+{
+    let side = new.side;
+    let other = resting.side;
+    let kind = resting.kind;
+    let p = new.price;
+    let q = resting.price;
+    trading::is_opposite(side, other) | !kind.is_displayed() | trading::is_priced_better(side, p, q)
+}
+
+// How the new order stands to the first n orders of the book.
+fn standing_in(book: &[u8], n: usize, new: Order) -> Standing
+    requires { ⌜ 32 * n ≤ length (now book) ⌝ }
+    ensures { λ r. ⌜ r ≡ standingOf new (firstOrders n (now (book .entry))) ⌝ }
+{
+    let mut stale = false;
+    let mut trades = false;
+    let mut best = true;
+    let mut at = 0;
+    let mut left = n;
+    while 0 < left {
+        let order = records::order_at(book, at);
+        stale = stale | (new.number <= order.number);
+        trades = trades | could_trade(new, order);
+        best = best & beats(new, order);
+        at += RECORD_BYTES;
+        left -= 1;
+    }
+    Standing {
+        stale,
+        trades,
+        beats: best,
+    }
+}
+
+// The refusal of an add, or the order to be put last and where.
+pub fn decide(book: &[u8], request: AddRequest) -> Admission
+    ensures { λ r. ⌜ r ≡ addPlan request (now (book .entry)) ⌝ }
+{
+    if !in_range(request) {
+        return Admission::Refused(1);
+    }
+    let checked = lookup::check(book);
+    let refusal = checked.refusal;
+    if refusal != 0 {
+        return Admission::Refused(refusal);
+    }
+    let n = checked.orders as usize;
+    let new = requested(request, false);
+    let found = standing_in(book, n, new);
+    let stale = found.stale;
+    let trades = found.trades;
+    if stale {
+        return Admission::Refused(4);
+    }
+    if trades {
+        return Admission::Refused(5);
+    }
+    if book.len() / RECORD_BYTES <= n {
+        return Admission::Refused(6);
+    }
+    let lot = units::round_lot();
+    let shown = new.displayed();
+    let kind = new.kind;
+    let setter = kind.is_displayed() & (lot.0 <= shown.0) & found.beats;
+    Admission::Admitted(RECORD_BYTES * n, requested(request, setter))
+}

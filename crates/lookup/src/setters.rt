@@ -1,0 +1,62 @@
+// Setter marks: at most one per side and price. Marked orders are compared with each other alone, by a key gathered from each once.
+use book::records;
+use book::records::RECORD_BYTES;
+use orders::order::Order;
+ghost use mathlib.Core.Path.{_≡_};
+ghost use Prim.Native.Nat.{_*_, _≤_};
+ghost use lib.Dec.{eqb};
+ghost use lib.ListN.{length};
+ghost use Rattle.units.specs.Lists.{any};
+ghost use Rattle.book.specs.Sound.{settersSound, firstOrders};
+ghost use Rattle.lookup.specs.Setters.{setterKey};
+
+// One number for an order's side and price.
+fn key_of(order: Order) -> u64
+    ensures { λ r. ⌜ r ≡ setterKey order ⌝ }
+{
+    let side = order.side;
+    let price = order.price;
+    4 * (price.0 as u64) + (side.number() as u64)
+}
+
+// Whether one of the keys is this one.
+fn contains(keys: &[u64], key: u64) -> bool
+    ensures { λ r. ⌜ r ≡ any (eqb key) (now (keys .entry)) ⌝ }
+{
+    let mut found = false;
+    let mut i = 0;
+    while i < keys.len() {
+        found = found | (key == keys[i]);
+        i += 1;
+    }
+    found
+}
+
+fn no_keys() -> [u64; 256] {
+    [0; 256]
+}
+
+// Whether no two of the first n orders are marked at one side and price.
+pub(crate) fn are_apart(book: &[u8], n: usize) -> bool
+    requires { ⌜ (32 * n ≤ length (now book)) × (n ≤ 256) ⌝ }
+    ensures { λ r. ⌜ r ≡ settersSound (firstOrders n (now (book .entry))) ⌝ }
+{
+    let mut keys = no_keys();
+    let mut marked = 0;
+    let mut at = 0;
+    let mut left = n;
+    while 0 < left {
+        let order = records::order_at(book, at);
+        if order.setter {
+            let key = key_of(order);
+            if contains(&keys[..marked], key) {
+                return false;
+            }
+            keys[marked] = key;
+            marked += 1;
+        }
+        at += RECORD_BYTES;
+        left -= 1;
+    }
+    true
+}

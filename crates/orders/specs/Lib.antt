@@ -1,0 +1,3 @@
+pub mod Order
+pub mod Trading
+pub mod Examples

@@ -1,0 +1,58 @@
+-- Bytes put in the place of others one by one: after i of them, a list x is what paste says, and after the last it is what replaced says.
+use Prim.Native.Nat.{ℕ, _+_, _-_, _≤_, _<_}
+use mathlib.Core.Path.{_≡_, sym, ap, _∙_}
+use mathlib.Core.List.{List, append-assoc}
+use native.Mathlib.Omega.{arith}
+use native.Mathlib.Numerals.{add-one}
+use lib.ListN.{length, getD, take, drop, set, length-drop}
+use lib.Seq.{paste, paste-suc, length-paste, drop-paste, take-length, getD-drop}
+use Rattle.record.specs.Codec.{replaced}
+
+module _ (d s : List ℕ) (at : ℕ) (h : at + length s ≤ length d) (x : List ℕ) (i : ℕ) (e : x ≡ paste d at s i) where
+  -- one byte more is put in
+  pub paste-more : i < length s → (v : ℕ) → v ≡ getD s i 0 → set x (at + i) v ≡ paste d at s (i + 1)
+  paste-more l v q = rw (e, q, add-one) (paste-suc d at s i 0 (omega arith) l)
+
+  -- the list is as long as it was
+  pub paste-long : i ≤ length s → length x ≡ length d
+  paste-long l = ap length e ∙ length-paste d at s i (omega arith) l
+
+  -- what stands behind the bytes that were put in is as it was
+  paste-behind : i ≤ length s → (k : ℕ) → getD x (at + i + k) 0 ≡ getD d (at + i + k) 0
+  paste-behind l k =
+      let q : drop (at + i) x ≡ drop (at + i) d = ap (drop (at + i)) e ∙ drop-paste d at s i (omega arith) l in
+      sym (getD-drop (at + i) x k 0) ∙ ap (λ t. getD t k 0) q ∙ getD-drop (at + i) d k 0
+
+  -- every byte is put in
+  pub paste-done : i ≤ length s → length s ≤ i → x ≡ replaced at s d
+  paste-done l m =
+      let q : i ≡ length s = omega arith in
+      e ∙ rw (q, take-length) (append-assoc (take at d) s (drop (at + length s) d))
+
+-- What stands k bytes behind a place moves up to it, byte by byte: x is the list after i of them.
+module _ (d : List ℕ) (at k : ℕ) (h : at + k ≤ length d)
+    (x : List ℕ) (i : ℕ) (l : i ≤ length d - k - at) (e : x ≡ paste d at (drop (at + k) d) i) where
+  count : length (drop (at + k) d) ≡ length d - k - at
+  count = length-drop (at + k) d ∙ omega arith
+
+  fits : at + length (drop (at + k) d) ≤ length d
+  fits = omega (arith, count)
+
+  within : i ≤ length (drop (at + k) d)
+  within = omega (arith, count)
+
+  -- one byte more moves
+  pub move-more : i < length d - k - at → set x (at + i) (getD x (at + k + i) 0) ≡ paste d at (drop (at + k) d) (i + 1)
+  move-more m =
+      let s = drop (at + k) d in
+      let q : at + k + i ≡ at + i + k = omega arith in
+      let v : getD x (at + k + i) 0 ≡ getD s i 0 = rw (getD-drop (at + k) d i 0, q) (paste-behind d s at fits x i e within k) in
+      paste-more d s at fits x i e (omega (arith, count)) (getD x (at + k + i) 0) v
+
+  -- the list is as long as it was
+  pub move-long : length x ≡ length d
+  move-long = paste-long d (drop (at + k) d) at fits x i e within
+
+  -- every byte has moved
+  pub move-done : length d - k - at ≤ i → x ≡ replaced at (drop (at + k) d) d
+  move-done m = paste-done d (drop (at + k) d) at fits x i e within (omega (arith, count))

@@ -1,0 +1,16 @@
+-- The numbers of an order's record by name, for the functions that read one. No call's meaning rests on it.
+use Prim.Native.Nat.{ℕ}
+use mathlib.Core.List.{List}
+use lib.ListN.{getD}
+use Rattle.record.specs.declared.order_record.Numbers.{Numbers}
+
+abbrev pub namedNumbers : List ℕ → Numbers
+namedNumbers ns = record {
+  side = getD ns 0 0;
+  kind = getD ns 1 0;
+  number = getD ns 2 0;
+  price = getD ns 3 0;
+  size = getD ns 4 0;
+  minimum = getD ns 5 0;
+  setter = getD ns 6 0;
+}

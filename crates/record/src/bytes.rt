@@ -1,0 +1,62 @@
+// Bytes: numbers read from them, zeros, and bytes put in the place of others.
+ghost use mathlib.Core.Path.{_≡_};
+ghost use Prim.Native.Nat.{_+_, _≤_, _<_};
+ghost use lib.ListN.{length, take, drop};
+ghost use Rattle.units.specs.Lists.{all, isZero};
+ghost use Rattle.record.specs.Codec.{toBytes, fromBytes, replaced};
+
+// A byte, as wide as the numbers that are made of bytes.
+pub(crate) fn wide(b: u8) -> u32
+    ensures { λ r. ⌜ (r ≡ b) × (r < 256) ⌝ }
+{
+    b as u32
+}
+
+// The number in the four bytes of s from at on.
+pub fn read_u32(s: &[u8], at: usize) -> u32
+    requires { ⌜ at + 4 ≤ length (now s) ⌝ }
+    ensures { λ r. ⌜ r ≡ fromBytes (take 4 (drop at (now (s .entry)))) ⌝ }
+{
+    let a = s[at];
+    let b = s[at + 1];
+    let c = s[at + 2];
+    let d = s[at + 3];
+    wide(a) + 256 * (wide(b) + 256 * (wide(c) + 256 * wide(d)))
+}
+
+// The four bytes of a number.
+pub(crate) fn u32_bytes(n: u32) -> [u8; 4]
+    ensures { λ r. ⌜ r ≡ toBytes 4 n ⌝ }
+{
+    [
+        (n % 256) as u8,
+        (n / 256 % 256) as u8,
+        (n / 256 / 256 % 256) as u8,
+        (n / 256 / 256 / 256 % 256) as u8,
+    ]
+}
+
+// Whether every byte of s is zero.
+pub fn zeros(s: &[u8]) -> bool
+    ensures { λ r. ⌜ r ≡ all isZero (now (s .entry)) ⌝ }
+{
+    let mut clear = true;
+    let mut i = 0;
+    while i < s.len() {
+        clear = clear & (s[i] == 0);
+        i += 1;
+    }
+    clear
+}
+
+// The bytes of src go into dst from at on.
+pub fn put(dst: &mut [u8], at: usize, src: &[u8])
+    requires { ⌜ at + length (now src) ≤ length (now dst) ⌝ }
+    ensures { λ _. ⌜ now (dst .exit) ≡ replaced at (now (src .entry)) (now (dst .entry)) ⌝ }
+{
+    let mut i = 0;
+    while i < src.len() {
+        dst[at + i] = src[i];
+        i += 1;
+    }
+}
