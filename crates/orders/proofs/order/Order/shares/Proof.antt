@@ -1,8 +1,7 @@
 -- `orders::order::Order::shares` meets its contract.
-use mathlib.Core.Path.{sym}
 use Rattle.orders.proofs.Interests.{all-shares}
 use Rattle.orders.proofs.order.Order.shares.Statement.{statement}
 use Rattle.orders.proofs.order.Order.shares.Tie as tie
 
 pub shares-spec : {M : Type 1} → statement M
-shares-spec = tie.close (tie.spec (λ c. sym (all-shares (c .before .args .self))))
+shares-spec = tie.close (tie.spec (λ c. rw all-shares))
