@@ -8,6 +8,7 @@ use lib.ListN.{length, replicate, length-append, length-replicate}
 use lib.Seq.{take-at, drop-at}
 use Rattle.units.specs.Lists.{all, flatMap, isZero}
 use Rattle.units.proofs.Tests.{true-and}
+use Rattle.units.proofs.Totals.{length-flat}
 use Rattle.units.proofs.Members.{Every}
 use Rattle.orders.specs.declared.order.Order.{Order}
 use Rattle.record.specs.Codec.{encode}
@@ -27,8 +28,7 @@ length-order o = length-encode form (numbersOf o) refl
 
 -- and so has each of several
 pub length-orders : (os : List Order) → length (flatMap (encodeOrder form) os) ≡ recordBytes * length os
-length-orders [] = refl
-length-orders (o ∷ os) = length-append (encodeOrder form o) (flatMap (encodeOrder form) os) ∙ omega (arith, length-order o, length-orders os)
+length-orders = length-flat (encodeOrder form) recordBytes length-order
 
 -- the records of a book: one for each order, then zeros
 first-orders : (c n : ℕ) (os : List Order) → c ≡ length os + n

@@ -7,6 +7,7 @@ pub mod Refusing
 pub mod Changing
 pub mod Walking
 pub mod Checking
+pub mod Access
 pub mod Finding
 pub mod Placing
 pub mod Writing

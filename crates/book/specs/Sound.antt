@@ -101,3 +101,7 @@ capacityOf s = capacityIn form s
 
 abbrev pub firstOrders : ℕ → List ℕ → List Order
 firstOrders n s = firstOrdersIn form n s
+
+-- the order of record i, counted from 0
+abbrev pub orderAt : List ℕ → ℕ → Order
+orderAt s i = decodeOrder form (take 32 (drop (32 * i) s))

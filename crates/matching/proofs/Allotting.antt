@@ -1,14 +1,13 @@
 -- Every paragraph, under every algorithm, gives no more than the shares left and no part more than its size, and leaves shares over only
 -- where every part is filled or has a minimum above them.
-use Prim.Native.Nat.{ℕ, _<_}
+use Prim.Native.Nat.{ℕ, _≤_, _<_}
 use mathlib.Core.Path.{_≡_}
 use mathlib.Core.Bool.{true}
 use mathlib.Core.List.{List, map}
 use lib.Dec.{leb}
-use Rattle.sharing.specs.Rank.{Part, byTime, larger, smallerMinimum}
+use Rattle.sharing.specs.Rank.{Part, byTime, larger, smallerMinimum, Rising}
 use Rattle.sharing.specs.Lots.{divided, lotSharing}
 use Rattle.sharing.specs.Setter.{setterSharing}
-use Rattle.sharing.proofs.Ranks.{Rising}
 use Rattle.sharing.proofs.Filled.{Filled, round-filled}
 use Rattle.sharing.proofs.LotSharing.{lots-filled}
 use Rattle.sharing.proofs.SetterSharing.{setter-filled}
@@ -20,7 +19,7 @@ use Rattle.matching.specs.declared.Algorithm.the-variants.{PriceTime, Pr
 use Rattle.matching.specs.declared.Paragraph.{Paragraph}
 use Rattle.matching.specs.declared.Paragraph.the-variants.{Two, Three, Four, Five, Six}
 use Rattle.matching.specs.Paragraph.{Group, timeGroup, proRataGroup, partOf, proRataShares}
-use Rattle.matching.specs.Take.{allocationAt}
+use Rattle.matching.specs.Take.{used, allocationAt}
 use Rattle.matching.proofs.Parts.{parts-rising, partsAt}
 use Rattle.matching.proofs.Groups.{one-setter, free-parts, shown-free, hidden-free}
 
@@ -53,3 +52,8 @@ module _ (lot : ℕ) (hl : 0 < lot) where
         pro-rata-filled setterSharing
         (setter-filled lot hl 0 (lotParts Two) (rises (proRataGroup lot Two)) (free-parts t price (proRataGroup lot Two) (shown-free (λ m n. leb lot n)) os)
         (one-setter t price (proRataGroup lot Two) os setters) left) g
+
+-- a paragraph uses no more than the shares left
+pub used-within : (lot : ℕ) → 0 < lot → (alg : Algorithm) (t : Taker) (os : List Order) → rising 0 os ≡ true → settersSound os ≡ true
+    → (price : ℕ) (g : Paragraph) (left : ℕ) → used (allocationAt lot alg t os price g left) ≤ left
+used-within lot hl alg t os rise setters price g left = allotment-filled lot hl t os rise setters price left alg g .within

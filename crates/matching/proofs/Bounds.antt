@@ -10,10 +10,9 @@ use lib.Dec.{T, leb}
 use Rattle.units.specs.Lists.{total}
 use Rattle.units.proofs.Tests.{T-true, true-T, true-and}
 use Rattle.units.proofs.Members.{any-member}
-use Rattle.sharing.specs.Rank.{Part, partSize}
+use Rattle.sharing.specs.Rank.{Part, partSize, Rising}
 use Rattle.sharing.specs.Lots.{divided}
 use Rattle.sharing.specs.Setter.{guarantee, isSetter, ofSetter}
-use Rattle.sharing.proofs.Ranks.{Rising}
 use Rattle.sharing.proofs.LotSharing.{lotShare, lots-least, lots-most, lots-within}
 use Rattle.sharing.proofs.SetterAndOthers.{setter-number, others-total}
 use Rattle.sharing.proofs.SetterSharing.{keepsGuarantee, setterShare, setter-plain, setter-kept, kept-means, plain-means, other-least, other-most, other-within}

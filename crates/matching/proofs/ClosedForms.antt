@@ -5,11 +5,11 @@ use mathlib.Core.Path.{_≡_, refl}
 use mathlib.Core.Bool.{Bool, true}
 use mathlib.Core.List.{List, map}
 use lib.Dec.{leb, ltb}
-use Rattle.sharing.specs.Rank.{Part, partSize, byTime, larger, smallerMinimum}
+use Rattle.sharing.specs.Rank.{Part, partSize, byTime, larger, smallerMinimum, Rising}
 use Rattle.sharing.specs.Round.{taking, round}
 use Rattle.sharing.specs.Lots.{divided, lotSharing}
 use Rattle.sharing.specs.Setter.{setterSharing}
-use Rattle.sharing.proofs.Ranks.{Rising, by-time, by-size}
+use Rattle.sharing.proofs.Ranks.{by-time, by-size}
 use Rattle.sharing.proofs.Closed.{ahead, closedLots, closedSetter, round-closed, minimum-closed, lots-closed, setter-closed}
 use Rattle.orders.specs.declared.order.Order.{Order}
 use Rattle.orders.specs.declared.order.Taker.{Taker}

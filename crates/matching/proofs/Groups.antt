@@ -12,8 +12,7 @@ use Rattle.units.proofs.Tests.{and-true, and-false, pick-zero}
 use Rattle.units.proofs.Members.{Every, every-weaken, none-member, member-any}
 use Rattle.units.proofs.Totals.{total-map, total-same}
 use Rattle.sharing.specs.Rank.{Part, partSize}
-use Rattle.sharing.specs.Setter.{isSetter}
-use Rattle.sharing.proofs.SetterAndOthers.{OneSetter}
+use Rattle.sharing.specs.Setter.{isSetter, OneSetter}
 use Rattle.orders.specs.declared.order.Side.{Side}
 use Rattle.orders.specs.declared.order.Side.the-variants.{Buy, Sell}
 use Rattle.orders.specs.declared.order.Kind.{Kind}

@@ -3,7 +3,7 @@
 use Prim.Native.Nat.{ℕ, _+_, _-_, _≤_, _<_}
 use mathlib.Core.Path.{_≡_, refl, sym, ap, _∙_}
 use mathlib.Core.Logic.{inl, inr}
-use mathlib.Core.Bool.{Bool, true, false, _&&_, true≢false}
+use mathlib.Core.Bool.{Bool, true, false, _&&_}
 use mathlib.Core.List.{List, [], _∷_, List·Memᴰ, List·Memᴰ·head, List·Memᴰ·tail, List·Memᴰ·not-nil}
 use native.Mathlib.Omega.{arith}
 use native.Mathlib.Nat.{zero-add, add-zero}
@@ -24,7 +24,7 @@ use Rattle.matching.specs.declared.Algorithm.{Algorithm}
 use Rattle.matching.specs.declared.Paragraph.{Paragraph}
 use Rattle.matching.specs.Paragraph.{paragraphs, groupOf, partOf}
 use Rattle.matching.specs.Take.{Allocation, used, allocationAt, allocationsAt, allocationsOver}
-use Rattle.matching.proofs.Levels.{Sorted, better-irreflexive}
+use Rattle.matching.proofs.Levels.{Sorted, better-apart}
 use Rattle.matching.proofs.Entries.{shareIn, pick}
 use Rattle.matching.proofs.Parts.{wholePart, part-in, part-out, partsAt}
 use Rattle.matching.proofs.Places.{sameVisibility, same-visibility, own-shares, other-shares, standsIn, standing-one, other, Once, paragraphs-once}
@@ -168,9 +168,6 @@ module _ (lot : ℕ) (alg : Algorithm) (t : Taker) (os : List Order) (rise : ris
           own : (g : Paragraph) → standsAt (priceOf o) g ≡ standsIn v (isMinimumQuantity (o .kind)) (sharesOf v (interestOf o)) (groupOf lot alg g)
           own g = rw (e, eq-eqb (priceOf o) (priceOf o) refl)
 
-      apart : (p q : ℕ) → isBetter (t .side) p q ≡ true → ¬ (p ≡ q)
-      apart p q b e = true≢false (sym b ∙ (ap (λ x. isBetter (t .side) x q) e ∙ better-irreflexive (t .side) q))
-
       -- where shares are left over, the order's shares of this visibility are all lost, or none and its minimum is above what is left
       pub all-met : isOppositeOf t o ≡ true → 0 < sharesOf v (interestOf o) → (prices : List ℕ) → Sorted (t .side) prices → List·Memᴰ (priceOf o) prices → (l : ℕ)
           → total used (allocationsOver lot alg t os prices l) < l
@@ -185,7 +182,9 @@ module _ (lot : ℕ) (alg : Algorithm) (t : Taker) (os : List Order) (rise : ris
           let x : total used here < l → Met (l - total used here) (wholePart v o) (total (lost os v o) here) = rw k at c in
           rw (a, total-append (lost os v o) here rest)
           (met-first l (total used here) (total used rest) (total (lost os v o) here) (total (lost os v o) rest)
-          (levels-out ps (every-weaken {P = λ q. isBetter (t .side) p q ≡ true} {Q = λ q. ¬ (priceOf o ≡ q)} (λ q b f. apart p q b (sym k ∙ f)) ps (s .0)) (l - total used here))
+          (levels-out ps
+          (every-weaken {P = λ q. isBetter (t .side) p q ≡ true} {Q = λ q. ¬ (priceOf o ≡ q)} (λ q b f. better-apart (t .side) p q b (sym k ∙ f)) ps (s .0))
+          (l - total used here))
           (x (omega arith)))
       all-met e d (p ∷ ps) s (List·Memᴰ·tail k) l h =
           let here = level p paragraphs l in
@@ -194,5 +193,5 @@ module _ (lot : ℕ) (alg : Algorithm) (t : Taker) (os : List Order) (rise : ris
           let b = every-member (λ q. isBetter (t .side) p q ≡ true) ps (s .0) (priceOf o) k in
           rw (a, total-append (lost os v o) here rest)
           (met-second l (total used here) (total used rest) (total (lost os v o) here) (total (lost os v o) rest)
-          (rows-out p paragraphs (far p (λ f. apart p (priceOf o) b (sym f)) paragraphs) l)
+          (rows-out p paragraphs (far p (λ f. better-apart (t .side) p (priceOf o) b (sym f)) paragraphs) l)
           (all-met e d ps (s .1) k (l - total used here) (omega arith)))

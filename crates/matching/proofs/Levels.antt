@@ -1,7 +1,7 @@
--- The price levels: strictly best first, and the price of every tradable order is among them.
+-- The price levels: strictly best first, the price of every tradable order is among them, and no other is.
 use Prim.Native.Nat.{ℕ}
-use mathlib.Core.Path.{_≡_, ap, _∙_, refl}
-use mathlib.Core.Bool.{Bool, true, false, cond}
+use mathlib.Core.Path.{_≡_, refl, sym, ap, _∙_}
+use mathlib.Core.Bool.{Bool, true, false, cond, true≢false}
 use mathlib.Core.List.{List, [], _∷_, foldr, List·Memᴰ, List·Memᴰ·head, List·Memᴰ·tail}
 use native.Mathlib.Omega.{arith}
 use lib.Dec.{eqb}
@@ -25,6 +25,10 @@ better-transitive Sell p q r h k = lt-ltb r p (omega (arith, ltb-true q p h, ltb
 pub better-irreflexive : (side : Side) (p : ℕ) → isBetter side p p ≡ false
 better-irreflexive Buy p = le-ltb p p (omega arith)
 better-irreflexive Sell p = le-ltb p p (omega arith)
+
+-- a better price is another one
+pub better-apart : (side : Side) (p q : ℕ) → isBetter side p q ≡ true → ¬ (p ≡ q)
+better-apart side p q b e = true≢false (sym b ∙ (ap (λ x. isBetter side x q) e ∙ better-irreflexive side q))
 
 -- of two prices only one is better
 pub better-asymmetric : (side : Side) (p q : ℕ) → isBetter side p q ≡ true → isBetter side q p ≡ false
@@ -94,13 +98,17 @@ module _ (t : Taker) (os : List Order) where
       go (x ∷ xs) (List·Memᴰ·tail k) =
           insert-have (t .side) (priceOf x) (priceOf o) (foldr (λ o ps. insertPrice (t .side) (priceOf o) ps) [] xs) (List·Memᴰ·tail (go xs k))
 
+  -- every level is the price of an order that may trade: what holds of those holds of the levels
+  pub levels-only : (P : ℕ → Type 0) → ((o : Order) → List·Memᴰ o os → isTradable t o ≡ true → P (priceOf o)) → Every P (priceLevels t os)
+  unfolding priceLevels
+  levels-only P h =
+      go (filter (isTradable t) os) (member-every (λ o. P (priceOf o)) (filter (isTradable t) os)
+      (λ o m. let k = filter-member (isTradable t) os o m in h o (k .0) (k .1)))
+    where
+      go : (xs : List Order) → Every (λ o. P (priceOf o)) xs → Every P (foldr (λ o ps. insertPrice (t .side) (priceOf o) ps) [] xs)
+      go [] k = tt
+      go (x ∷ xs) k = every-insert (t .side) (priceOf x) P (foldr (λ o ps. insertPrice (t .side) (priceOf o) ps) [] xs) (k .0) (go xs (k .1))
+
 -- what holds of every order's price holds of the levels
 pub levels-every : (P : ℕ → Type 0) (t : Taker) (os : List Order) → Every (λ o. P (priceOf o)) os → Every P (priceLevels t os)
-unfolding priceLevels
-levels-every P t os h =
-    go (filter (isTradable t) os) (member-every (λ o. P (priceOf o)) (filter (isTradable t) os)
-    (λ o m. every-member (λ o. P (priceOf o)) os h o (filter-member (isTradable t) os o m .0)))
-  where
-    go : (xs : List Order) → Every (λ o. P (priceOf o)) xs → Every P (foldr (λ o ps. insertPrice (t .side) (priceOf o) ps) [] xs)
-    go [] k = tt
-    go (x ∷ xs) k = every-insert (t .side) (priceOf x) P (foldr (λ o ps. insertPrice (t .side) (priceOf o) ps) [] xs) (k .0) (go xs (k .1))
+levels-every P t os h = levels-only t os P (λ o m e. every-member (λ o. P (priceOf o)) os h o m)

@@ -14,3 +14,4 @@ pub mod Executed
 pub mod Taking
 pub mod Transport
 pub mod TakeFair
+pub mod Counting

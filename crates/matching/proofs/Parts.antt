@@ -10,11 +10,11 @@ use borrow.Author.Tests.{ltb-true}
 use Rattle.units.specs.Lists.{orZero, total}
 use Rattle.units.proofs.Tests.{and-true}
 use Rattle.units.proofs.Members.{every-append}
-use Rattle.sharing.specs.Rank.{Part, noPart, partSize, byTime, larger, smallerMinimum, ranked}
+use Rattle.sharing.specs.Rank.{Part, noPart, partSize, byTime, larger, smallerMinimum, ranked, Rising}
 use Rattle.sharing.specs.Round.{goesRound, round}
 use Rattle.sharing.specs.Lots.{divided, lotSharing}
 use Rattle.sharing.specs.Setter.{setterSharing}
-use Rattle.sharing.proofs.Ranks.{Rising, differ-ranked, mem-ranked}
+use Rattle.sharing.proofs.Ranks.{differ-ranked, mem-ranked}
 use Rattle.sharing.proofs.Turns.{turn, taking-le}
 use Rattle.sharing.proofs.LotSharing.{lotShare, lots-map, lots-zero}
 use Rattle.sharing.proofs.SetterSharing.{setterShare, setter-map, setters-zero}
@@ -136,7 +136,8 @@ module _ (lot : ℕ) (alg : Algorithm) (t : Taker) (os : List Order) where
   abbrev pub partsAt : ℕ → Paragraph → List Part
   partsAt price g = map (partOf t price (groupOf lot alg g)) os
 
-  allotted : (price : ℕ) (g : Paragraph) (left : ℕ)
+  -- an allotment is what each part gets
+  pub allotted : (price : ℕ) (g : Paragraph) (left : ℕ)
       → allocationAt lot alg t os price g left .allotment ≡ map (allotShare lot alg g left (partsAt price g)) (partsAt price g)
   unfolding allocationAt
   allotted price g left = allot-map lot alg g left (partsAt price g)
@@ -162,8 +163,12 @@ module _ (lot : ℕ) (alg : Algorithm) (t : Taker) (os : List Order) where
         ≡ allotShare lot alg g left (partsAt price g) (partOf t price (groupOf lot alg g) o)
     entry-is = rw (allotted price g left) (lookup (allotShare lot alg g left (partsAt price g)) (partOf t price (groupOf lot alg g)) 0 os rise o i)
 
-    -- an order whose part has no size gets nothing
-    pub entry-none : partOf t price (groupOf lot alg g) o .size ≡ 0 → shareIn (o .number) os (allocationAt lot alg t os price g left .allotment) ≡ 0
-    entry-none z =
+    -- an order whose part has no size is given nothing
+    pub part-none : partOf t price (groupOf lot alg g) o .size ≡ 0 → allotShare lot alg g left (partsAt price g) (partOf t price (groupOf lot alg g) o) ≡ 0
+    part-none z =
         let group = groupOf lot alg g in
-        entry-is ∙ allot-none 0 (partsAt price g) (parts-rising t price group 0 os rise) (partOf t price group o) (Memᴰ·map (partOf t price group) i) z lot alg g left
+        allot-none 0 (partsAt price g) (parts-rising t price group 0 os rise) (partOf t price group o) (Memᴰ·map (partOf t price group) i) z lot alg g left
+
+    -- and its entry says so
+    pub entry-none : partOf t price (groupOf lot alg g) o .size ≡ 0 → shareIn (o .number) os (allocationAt lot alg t os price g left .allotment) ≡ 0
+    entry-none z = entry-is ∙ part-none z

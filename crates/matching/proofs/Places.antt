@@ -109,7 +109,8 @@ lot-tests v m n lot Four = refl
 lot-tests v m n lot Five = refl
 lot-tests v m n lot Six = ap (λ b. sameVisibility v hidden && (not m && b)) (below lot n)
 
-passing-one : (lot : ℕ) (alg : Algorithm) (v : Visibility) (m : Bool) (n : ℕ) → One (λ g. passes v m n (groupOf lot alg g))
+-- a paragraph has the test that they pass, and no other has
+pub passing-one : (lot : ℕ) (alg : Algorithm) (v : Visibility) (m : Bool) (n : ℕ) → One (λ g. passes v m n (groupOf lot alg g))
 passing-one lot PriceTime v m n = time-one v m n lot
 passing-one lot ProRata v m n = one-of (lot-tests v m n lot) (lot-one v m (leb lot n))
 passing-one lot PriceSetter v m n = one-of (lot-tests v m n lot) (lot-one v m (leb lot n))

@@ -1,7 +1,7 @@
 -- What an order that stands in the first paragraph alone gets over the price levels: its share there of what reaches its price.
 use Prim.Native.Nat.{ℕ, _+_, _-_}
 use mathlib.Core.Path.{_≡_, refl, sym, ap, _∙_, subst}
-use mathlib.Core.Bool.{true, true≢false}
+use mathlib.Core.Bool.{true}
 use mathlib.Core.List.{List, [], _∷_, _++_, List·Memᴰ, List·Memᴰ·head, List·Memᴰ·tail}
 use native.Mathlib.Omega.{arith}
 use Rattle.units.specs.Lists.{orZero, total}
@@ -22,7 +22,7 @@ use Rattle.matching.specs.Levels.{priceLevels}
 use Rattle.matching.specs.Paragraph.{groupOf, partOf, paragraphs}
 use Rattle.matching.specs.Take.{Allocation, used, allocationAt, allocationsAt, allocationsOver, allocations, outcome}
 use Rattle.matching.specs.Fairness.{gets, reaching}
-use Rattle.matching.proofs.Levels.{Sorted, levels-sorted, levels-have, better-irreflexive, better-asymmetric}
+use Rattle.matching.proofs.Levels.{Sorted, levels-sorted, levels-have, better-irreflexive, better-apart, better-asymmetric}
 use Rattle.matching.proofs.Entries.{shareIn, gets-entries, executed-at}
 use Rattle.matching.proofs.Parts.{allotShare, partsAt, entry-is, entry-none, aligned-over}
 use Rattle.matching.proofs.Groups.{other-price, NothingIn, laterParagraphs}
@@ -81,7 +81,7 @@ module _ (lot : ℕ) (alg : Algorithm) (t : Taker) (os : List Order) (rise : ris
       let rows = level q left in
       let rest = over qs (left - total used rows) in
       let w = got-worse qs (h .1) (left - total used rows) in
-      let a = got-elsewhere q (λ e. true≢false (sym (h .0) ∙ ap (isBetter (t .side) (priceOf o)) (sym e) ∙ better-irreflexive (t .side) (priceOf o))) left in
+      let a = got-elsewhere q (better-apart (t .side) (priceOf o) q (h .0)) left in
       let b = before-level q paragraphs left ∙ ap (λ c. orZero c (total used rows)) (better-asymmetric (t .side) (priceOf o) q (h .0)) in
       let c = got-append rows rest in
       let d = before-append rows rest in
@@ -121,7 +121,7 @@ module _ (lot : ℕ) (alg : Algorithm) (t : Taker) (os : List Order) (rise : ris
         let rows = level q left in
         let rest = over qs (left - total used rows) in
         let z = every-member (λ x. isBetter (t .side) q x ≡ true) qs (s .0) (priceOf o) k in
-        let a = got-elsewhere q (λ e. true≢false (sym z ∙ ap (isBetter (t .side) q) e ∙ better-irreflexive (t .side) q)) left in
+        let a = got-elsewhere q (λ e. better-apart (t .side) q (priceOf o) z (sym e)) left in
         let b = before-level q paragraphs left ∙ ap (λ c. orZero c (total used rows)) z in
         let c = got-append rows rest in
         let d = before-append rows rest in

@@ -21,7 +21,8 @@ use Rattle.matching.specs.declared.Algorithm.{Algorithm}
 use Rattle.matching.specs.declared.incoming.Incoming.{Incoming}
 use Rattle.matching.specs.Paragraph.{algorithmOf}
 use Rattle.matching.specs.Take.{Outcome, outcome}
-use Rattle.matching.specs.TakeCall.{TakeRequest, incomingOf, outcomeOf, written, takeCall}
+use Rattle.matching.specs.declared.TakeRequest.{TakeRequest}
+use Rattle.matching.specs.TakeCall.{incomingOf, outcomeOf, written, takeCall}
 use Rattle.matching.specs.Fairness.{executedShares, gets, reaching, Fair, FairTake}
 use Rattle.matching.proofs.Bounds.{lot-bounds, setter-share, beside-setter}
 use Rattle.matching.proofs.Unmet.{left-over, left-unmet}

@@ -19,7 +19,8 @@ use Rattle.matching.specs.declared.Algorithm.{Algorithm}
 use Rattle.matching.specs.declared.incoming.Incoming.{Incoming}
 use Rattle.matching.specs.Paragraph.{algorithmOf}
 use Rattle.matching.specs.Take.{allocations, lossesOf, Outcome, outcome}
-use Rattle.matching.specs.TakeCall.{TakeRequest, requestInRange, incomingOf, outcomeOf, takeRefusals, written, takeCall}
+use Rattle.matching.specs.declared.TakeRequest.{TakeRequest}
+use Rattle.matching.specs.TakeCall.{requestInRange, incomingOf, outcomeOf, takeRefusals, written, takeCall}
 
 module _ (lot : ℕ) (alg : Algorithm) (i : Incoming) (os : List Order) where
   -- sound orders stay sound

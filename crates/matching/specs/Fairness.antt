@@ -17,7 +17,8 @@ use Rattle.matching.specs.declared.Algorithm.{Algorithm}
 use Rattle.matching.specs.declared.Algorithm.the-variants.{PriceTime, PriceSetter}
 use Rattle.matching.specs.declared.incoming.Incoming.{Incoming}
 use Rattle.matching.specs.Paragraph.{algorithmOf}
-use Rattle.matching.specs.TakeCall.{TakeRequest, incomingOf, TakeAnswer}
+use Rattle.matching.specs.declared.TakeRequest.{TakeRequest}
+use Rattle.matching.specs.TakeCall.{incomingOf, TakeAnswer}
 
 abbrev pub executedShares : Execution → ℕ
 executedShares e = e .shares .0

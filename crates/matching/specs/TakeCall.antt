@@ -13,18 +13,12 @@ use Rattle.record.specs.Execution.{executionBytes, encodeExecution}
 use Rattle.book.specs.Sound.{ordersOf, bookOf, capacityOf}
 use Rattle.book.specs.Refusal.{Refusals, refuse, refusalOf, isAccepted}
 use Rattle.matching.specs.declared.Taken.{Taken}
+use Rattle.matching.specs.declared.TakeRequest.{TakeRequest}
 use Rattle.matching.specs.declared.incoming.Incoming.{Incoming}
 use Rattle.matching.specs.Paragraph.{algorithmOf}
 use Rattle.matching.specs.Take.{Outcome, outcome}
 
--- the numbers that take is given
-pub record TakeRequest : Type 0 where
-  pub side : ℕ
-  pub limit : ℕ
-  pub size : ℕ
-  pub algorithm : ℕ
-
--- they are in their ranges
+-- the numbers that take is given are in their ranges
 abbrev pub requestInRange : TakeRequest → Bool
 requestInRange q = inRange 1 2 (q .side) && priceInRange (q .limit) && sharesInRange (q .size) && inRange 1 3 (q .algorithm)
 

@@ -1,11 +1,31 @@
 // Taking: an incoming order against a book, under one of three algorithms.
 pub mod incoming;
 
+ghost use mathlib.Core.Path.{_≡_};
+ghost use lib.ListN.{getD};
+ghost use Rattle.matching.specs.declared.Paragraph.the-variants.{Six};
+ghost use Rattle.matching.specs.Paragraph.{algorithmOf, paragraphs, paragraphNumber};
+
 // The execution algorithms of Rule 3307. PriceSetter is pro rata with the variation for price-setting orders.
 pub enum Algorithm {
     PriceTime,
     ProRata,
     PriceSetter,
+}
+
+impl Algorithm {
+    // The algorithm of a number.
+    pub fn of(number: u32) -> Algorithm
+        ensures { λ r. ⌜ r ≡ algorithmOf number ⌝ }
+    {
+        if number == 1 {
+            return Algorithm::PriceTime;
+        }
+        if number == 2 {
+            return Algorithm::ProRata;
+        }
+        Algorithm::PriceSetter
+    }
 }
 
 // The paragraphs of the rule that say who shares, in their order.
@@ -15,6 +35,48 @@ pub enum Paragraph {
     Four,
     Five,
     Six,
+}
+
+impl Paragraph {
+    // The paragraph that comes at a place, the first at 0.
+    pub fn at(place: usize) -> Paragraph
+        ensures { λ r. ⌜ r ≡ getD paragraphs place Six ⌝ }
+    {
+        if place == 0 {
+            return Paragraph::Two;
+        }
+        if place == 1 {
+            return Paragraph::Three;
+        }
+        if place == 2 {
+            return Paragraph::Four;
+        }
+        if place == 3 {
+            return Paragraph::Five;
+        }
+        Paragraph::Six
+    }
+
+    // Its number in the rule.
+    pub fn number(self) -> u8
+        ensures { λ r. ⌜ r ≡ paragraphNumber self ⌝ }
+    {
+        match self {
+            Paragraph::Two => 2,
+            Paragraph::Three => 3,
+            Paragraph::Four => 4,
+            Paragraph::Five => 5,
+            Paragraph::Six => 6,
+        }
+    }
+}
+
+// The numbers that take is given.
+pub struct TakeRequest {
+    pub side: u32,
+    pub limit: u32,
+    pub size: u32,
+    pub algorithm: u32,
 }
 
 // What take answers: its refusal, how many executions it wrote, and the shares left.

@@ -1,3 +1,4 @@
 pub mod Order
 pub mod Trading
+pub mod Losses
 pub mod Examples

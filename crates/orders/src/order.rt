@@ -2,7 +2,7 @@
 use units::Price;
 use units::Shares;
 ghost use mathlib.Core.Path.{_≡_};
-ghost use Rattle.orders.specs.Order.{sideNumber, sideOf, kindNumber, kindOf, minimumOf, isDisplayed};
+ghost use Rattle.orders.specs.Order.{sideNumber, sideOf, kindNumber, kindOf, minimumOf, isDisplayed, isMinimumQuantity};
 ghost use Rattle.orders.specs.Order.{interest, interestOf, allShares, settled};
 
 pub enum Side {
@@ -79,6 +79,16 @@ impl Kind {
             Kind::Displayed => true,
             Kind::NonDisplayed => false,
             Kind::MinimumQuantity(_) => false,
+        }
+    }
+
+    pub fn is_minimum_quantity(self) -> bool
+        ensures { λ r. ⌜ r ≡ isMinimumQuantity self ⌝ }
+    {
+        match self {
+            Kind::MinimumQuantity(_) => true,
+            Kind::Displayed => false,
+            Kind::NonDisplayed => false,
         }
     }
 }

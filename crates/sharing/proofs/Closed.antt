@@ -11,11 +11,11 @@ use Rattle.units.specs.Lists.{any, orZero, total, zipWith}
 use Rattle.units.proofs.Tests.{or-true, and-false}
 use Rattle.units.proofs.Members.{Every, every-member, member-every}
 use Rattle.units.proofs.Totals.{map-same, zip-map}
-use Rattle.sharing.specs.Rank.{Part, partSize, larger, smallerMinimum, ranked}
+use Rattle.sharing.specs.Rank.{Part, partSize, larger, smallerMinimum, ranked, Rising}
 use Rattle.sharing.specs.Round.{taking, goesRound, round}
 use Rattle.sharing.specs.Lots.{firstStep, secondStep, lotSharing}
 use Rattle.sharing.specs.Setter.{guarantee, isSetter, ofSetter, others, besideSetter, setterSharing}
-use Rattle.sharing.proofs.Ranks.{Rising, Weak, by-size, by-minimum, Pairwise, Differ, total-ranked, every-ranked, mem-ranked, pairwise-ranked, differ-ranked}
+use Rattle.sharing.proofs.Ranks.{Weak, by-size, by-minimum, Pairwise, Differ, total-ranked, every-ranked, mem-ranked, pairwise-ranked, differ-ranked}
 use Rattle.sharing.proofs.Turns.{takes, absent}
 use Rattle.sharing.proofs.SetterAndOthers.{others-rising, others-free}
 

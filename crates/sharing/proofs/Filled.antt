@@ -9,9 +9,9 @@ use lib.Dec.{leb}
 use borrow.Author.Tests.{leb-false}
 use Rattle.units.specs.Lists.{orZero, sum, total}
 use Rattle.units.proofs.Totals.{total-map, total-full}
-use Rattle.sharing.specs.Rank.{Part, partSize, ranked}
+use Rattle.sharing.specs.Rank.{Part, partSize, ranked, Rising}
 use Rattle.sharing.specs.Round.{taking, goesRound, round}
-use Rattle.sharing.proofs.Ranks.{Rising, mem-ranked, differ-ranked}
+use Rattle.sharing.proofs.Ranks.{mem-ranked, differ-ranked}
 use Rattle.sharing.proofs.Turns.{remains, Turn, turn, taking-le, round-given}
 
 -- a part's n shares where r remain

@@ -8,10 +8,10 @@ use native.Mathlib.Decide.{decLt}
 use Rattle.units.specs.Lists.{total}
 use Rattle.units.proofs.Members.{Every}
 use Rattle.units.proofs.Totals.{total-add, total-mul, total-le, total-same, total-none, zip-map}
-use Rattle.sharing.specs.Rank.{Part, partSize, larger, ranked}
+use Rattle.sharing.specs.Rank.{Part, partSize, larger, ranked, Rising}
 use Rattle.sharing.specs.Round.{goesRound, round}
 use Rattle.sharing.specs.Lots.{divided, firstStep, secondStep, lotSharing}
-use Rattle.sharing.proofs.Ranks.{Rising, mem-ranked, differ-ranked}
+use Rattle.sharing.proofs.Ranks.{mem-ranked, differ-ranked}
 use Rattle.sharing.proofs.Turns.{taking-le, turn, round-total}
 use Rattle.sharing.proofs.Filled.{Filled, map-filled}
 

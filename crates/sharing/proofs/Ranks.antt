@@ -7,12 +7,7 @@ use native.Mathlib.Omega.{arith}
 use borrow.Author.Tests.{ltb-true, ltb-false, le-ltb}
 use Rattle.units.specs.Lists.{total}
 use Rattle.units.proofs.Members.{Every, every-member, every-weaken, every-both}
-use Rattle.sharing.specs.Rank.{Part, byTime, larger, smallerMinimum, place, ranked}
-
--- numbers strictly rising above m
-abbrev pub Rising : ℕ → List Part → Type 0
-Rising m [] = Unit {0}
-Rising m (p ∷ ps) = (m < p .number) × Rising (p .number) ps
+use Rattle.sharing.specs.Rank.{Part, Rising, byTime, larger, smallerMinimum, place, ranked}
 
 -- a map that keeps the numbers keeps them rising
 pub rising-map : (f : Part → Part) → ((p : Part) → f p .number ≡ p .number) → (m : ℕ) (ps : List Part) → Rising m ps → Rising m (map f ps)

@@ -10,14 +10,10 @@ use Rattle.units.specs.Lists.{orZero, total}
 use Rattle.units.proofs.Tests.{pick-both}
 use Rattle.units.proofs.Members.{Every}
 use Rattle.units.proofs.Totals.{total-map, total-add, total-same}
-use Rattle.sharing.specs.Rank.{Part, noPart, partSize}
-use Rattle.sharing.specs.Setter.{ofSetter, withoutSetter, others}
-use Rattle.sharing.proofs.Ranks.{Rising, rising-map, same-number}
+use Rattle.sharing.specs.Rank.{Part, noPart, partSize, Rising}
+use Rattle.sharing.specs.Setter.{OneSetter, ofSetter, withoutSetter, others}
+use Rattle.sharing.proofs.Ranks.{rising-map, same-number}
 use Rattle.sharing.proofs.Turns.{once}
-
--- at most one order is the setter
-abbrev pub OneSetter : List Part → Type 0
-OneSetter ps = (p q : Part) → List·Memᴰ p ps → List·Memᴰ q ps → p .setter ≡ true → q .setter ≡ true → p .number ≡ q .number
 
 -- the setter's number is a total over the group
 pub of-setter : (f : Part → ℕ) (ps : List Part) → ofSetter ps (map f ps) ≡ total (λ p. orZero (p .setter) (f p)) ps

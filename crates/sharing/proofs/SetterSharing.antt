@@ -11,13 +11,12 @@ use Rattle.units.specs.Lists.{any, orZero, total, zipWith}
 use Rattle.units.proofs.Tests.{and-true, pick-mono}
 use Rattle.units.proofs.Members.{Every, member-any}
 use Rattle.units.proofs.Totals.{total-add, total-le, total-same}
-use Rattle.sharing.specs.Rank.{Part, partSize}
+use Rattle.sharing.specs.Rank.{Part, partSize, Rising}
 use Rattle.sharing.specs.Lots.{divided, firstStep, lotSharing}
-use Rattle.sharing.specs.Setter.{guarantee, isSetter, ofSetter, withoutSetter, others, besideSetter, setterSharing}
-use Rattle.sharing.proofs.Ranks.{Rising}
+use Rattle.sharing.specs.Setter.{guarantee, isSetter, ofSetter, withoutSetter, others, besideSetter, setterSharing, OneSetter}
 use Rattle.sharing.proofs.Filled.{Filled, map-filled}
 use Rattle.sharing.proofs.LotSharing.{lotShare, lots-map, lots-least, lots-most, lots-zero, lots-within, lots-total}
-use Rattle.sharing.proofs.SetterAndOthers.{OneSetter, of-setter, setter-number, in-two, others-sum, others-rising, others-free, others-member}
+use Rattle.sharing.proofs.SetterAndOthers.{of-setter, setter-number, in-two, others-sum, others-rising, others-free, others-member}
 
 -- what is guaranteed to the setter; 0 where there is none
 abbrev pub guaranteed : ℕ → List Part → ℕ
@@ -36,7 +35,8 @@ unfoldable pub setterShare : ℕ → ℕ → List Part → Part → ℕ
 setterShare lot q ps p = cond (keepsGuarantee lot q ps) (besideShare lot q ps p) (lotShare lot q ps p)
 
 module _ (lot q : ℕ) (ps : List Part) where
-  beside-map : besideSetter lot q ps ≡ map (besideShare lot q ps) ps
+  -- beside a setter that gets the guarantee, part by part
+  pub beside-map : besideSetter lot q ps ≡ map (besideShare lot q ps) ps
   unfolding besideSetter
   beside-map = rw (lots-map lot (q - guaranteed q ps) (others ps)) (zip ps)
     where

@@ -6,18 +6,38 @@ use mathlib.Core.List.{List, [], _∷_, map}
 use native.Mathlib.Omega.{arith}
 use native.Mathlib.Nat.{zero-add, sub-zero}
 use lib.Dec.{eqb}
-use Rattle.units.specs.Lists.{any, orZero, total}
+use Rattle.units.specs.Lists.{any, filter, consIf, orZero, total}
 use Rattle.units.proofs.Tests.{pick-zero}
 use Rattle.units.proofs.Members.{Every, every-weaken}
-use Rattle.sharing.specs.Rank.{Part, place, ranked}
+use Rattle.sharing.specs.Rank.{Part, place, ranked, Rising}
 use Rattle.sharing.specs.Round.{taking, goesRound}
-use Rattle.sharing.proofs.Ranks.{Rising, Weak, Pairwise, pairwise-ranked}
+use Rattle.sharing.proofs.Ranks.{Weak, Pairwise, pairwise-ranked}
+use Rattle.sharing.proofs.Turns.{taking-le}
 
 -- the second list is the first without some parts that are Z
 pub data Thin (Z : Part → Type 0) : List Part → List Part → Type 0 where
   none : Thin Z [] []
   keep : {p : Part} {ps qs : List Part} → Thin Z ps qs → Thin Z (p ∷ ps) (p ∷ qs)
   drop : {p : Part} {ps qs : List Part} → Z p → Thin Z ps qs → Thin Z (p ∷ ps) qs
+
+-- a filter leaves out those that don't pass its test
+pub thin-filter : (f : Part → Bool) (ps : List Part) → Thin (λ p. f p ≡ false) ps (filter f ps)
+thin-filter f [] = none
+thin-filter f (p ∷ ps) = go (f p) refl (thin-filter f ps)
+  where
+    go : (b : Bool) → f p ≡ b → Thin (λ q. f q ≡ false) ps (filter f ps) → Thin (λ q. f q ≡ false) (p ∷ ps) (consIf b p (filter f ps))
+    go true e t = keep t
+    go false e t = drop e t
+
+rising-down : {m l : ℕ} (ps : List Part) → m ≤ l → Rising l ps → Rising m ps
+rising-down [] h r = tt
+rising-down (p ∷ ps) h r = let l = r .0 in (omega arith, r .1)
+
+-- the numbers of those kept rise
+pub thin-rising : {Z : Part → Type 0} (m : ℕ) {ps qs : List Part} → Thin Z ps qs → Rising m ps → Rising m qs
+thin-rising m none r = tt
+thin-rising m (keep {p = p} t) r = (r .0, thin-rising (p .number) t (r .1))
+thin-rising m (drop {p = p} {qs = qs} z t) r = rising-down qs (omega arith) (thin-rising (p .number) t (r .1))
 
 -- what holds of every part holds of those kept
 pub thin-every : {Z : Part → Type 0} (P : Part → Type 0) {ps qs : List Part} → Thin Z ps qs → Every P ps → Every P qs
@@ -99,3 +119,10 @@ round-thin want bound h left n l (keep {p = p} t) =
     ap (λ x. orZero (eqb (p .number) n) (taking want left p) + x) (round-thin want bound h (left - taking want left p) n (omega arith) t)
 round-thin want bound h left n l (drop {p = p} z t) =
     rw (h p z left l, pick-zero (eqb (p .number) n) refl, zero-add, sub-zero) (round-thin want bound h left n l t)
+
+-- parts that have size 0 and want nothing change nothing for the others
+pub goes-thin : {Z : Part → Type 0} → ((p : Part) → Z p → p .size ≡ 0) → {ps qs : List Part} → Thin Z ps qs → (m : ℕ) → Rising m ps
+    → (before : Part → Part → Bool) → Weak before → (want : Part → ℕ) → ((p : Part) → p .size ≡ 0 → want p ≡ 0) → (left n : ℕ)
+    → goesRound want left (ranked before ps) n ≡ goesRound want left (ranked before qs) n
+goes-thin e t m r before w want h left n =
+    round-thin want left (λ p z x l. omega (arith, taking-le want x p .1, h p (e p z))) left n (omega arith) (ranked-thin before w m t r)

@@ -10,9 +10,9 @@ use borrow.Author.Tests.{eq-eqb, ne-eqb, le-leb}
 use Rattle.units.specs.Lists.{orZero, total}
 use Rattle.units.proofs.Members.{Every, every-member, member-every}
 use Rattle.units.proofs.Totals.{total-add, total-none}
-use Rattle.sharing.specs.Rank.{Part, ranked}
+use Rattle.sharing.specs.Rank.{Part, ranked, Rising}
 use Rattle.sharing.specs.Round.{taking, goesRound}
-use Rattle.sharing.proofs.Ranks.{Rising, rising-above, total-ranked, every-ranked, Pairwise, Differ}
+use Rattle.sharing.proofs.Ranks.{rising-above, total-ranked, every-ranked, Pairwise, Differ}
 
 -- a part takes no more than remains, and no more than it wants
 pub taking-le : (want : Part → ℕ) (left : ℕ) (p : Part) → (taking want left p ≤ left) × (taking want left p ≤ want p)

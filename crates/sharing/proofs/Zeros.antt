@@ -6,16 +6,16 @@ use mathlib.Core.List.{List, map, List·Memᴰ}
 use native.Mathlib.Omega.{arith}
 use Rattle.units.specs.Lists.{orZero, total}
 use Rattle.units.proofs.Totals.{total-same, map-same}
-use Rattle.sharing.specs.Rank.{Part, partSize, larger, ranked}
+use Rattle.sharing.specs.Rank.{Part, partSize, larger, ranked, Rising}
 use Rattle.sharing.specs.Round.{goesRound, round}
 use Rattle.sharing.specs.Lots.{firstStep, secondStep, lotSharing}
 use Rattle.sharing.specs.Setter.{guarantee, isSetter, ofSetter, withoutSetter, setterSharing}
-use Rattle.sharing.proofs.Ranks.{Rising, Weak, by-size, mem-ranked, differ-ranked}
+use Rattle.sharing.proofs.Ranks.{Weak, by-size, mem-ranked, differ-ranked}
 use Rattle.sharing.proofs.Turns.{taking-le, turn}
 use Rattle.sharing.proofs.LotSharing.{lotShare, lots-map, lots-zero, first-zero}
 use Rattle.sharing.proofs.SetterAndOthers.{of-setter, others-rising}
 use Rattle.sharing.proofs.SetterSharing.{guaranteed, keepsGuarantee, setterShare, setter-map, setters-zero}
-use Rattle.sharing.proofs.Thin.{Thin, thin-map, thin-total, thin-any, ranked-thin, round-thin}
+use Rattle.sharing.proofs.Thin.{Thin, thin-map, thin-total, thin-any, goes-thin}
 
 -- a part that is nothing
 abbrev pub Nothing : Part → Type 0
@@ -32,11 +32,6 @@ second-zero : (lot q s : ℕ) (p : Part) → p .size ≡ 0 → secondStep lot q 
 second-zero lot q s p e = omega arith
 
 module _ {ps qs : List Part} (t : Thin Nothing ps qs) (m : ℕ) (r : Rising m ps) where
-  goes-thin : (before : Part → Part → Bool) → Weak before → (want : Part → ℕ) → ((p : Part) → p .size ≡ 0 → want p ≡ 0) → (left n : ℕ)
-      → goesRound want left (ranked before ps) n ≡ goesRound want left (ranked before qs) n
-  goes-thin before w want h left n =
-      round-thin want left (λ p z x l. omega (arith, taking-le want x p .1, h p (z .0))) left n (omega arith) (ranked-thin before w m t r)
-
   -- shares that go round
   pub round-zeros : (before : Part → Part → Bool) → Weak before → (want : Part → ℕ) → ((p : Part) → p .size ≡ 0 → want p ≡ 0) → (left : ℕ)
       → SameShares ps qs (round before want left ps) (round before want left qs)
@@ -44,7 +39,7 @@ module _ {ps qs : List Part} (t : Thin Nothing ps qs) (m : ℕ) (r : Rising m ps
   round-zeros before w want h left = record {
     share = λ p. goesRound want left (ranked before ps) (p .number);
     whole = refl;
-    kept = map-same qs (λ p i. sym (goes-thin before w want h left (p .number)));
+    kept = map-same qs (λ p i. sym (goes-thin (λ x z. z .0) t m r before w want h left (p .number)));
     zero = λ p i e.
         let u = turn want p (ranked before ps) (differ-ranked before m ps r) (mem-ranked before p ps i) left in
         omega (arith, u .took, taking-le want (u .met) p .1, h p e);
@@ -55,7 +50,8 @@ module _ {ps qs : List Part} (t : Thin Nothing ps qs) (m : ℕ) (r : Rising m ps
   lot-thin lot q p =
       rw (sym (thin-total partSize (λ x z. z .0) t), sym (thin-total (firstStep lot q (total partSize ps)) (λ x z. first-zero lot q (total partSize ps) x (z .0)) t))
       (ap (λ n. firstStep lot q (total partSize ps) p + n)
-      (goes-thin larger by-size (secondStep lot q (total partSize ps)) (second-zero lot q (total partSize ps)) (q - total (firstStep lot q (total partSize ps)) ps) (p .number)))
+      (goes-thin (λ x z. z .0) t m r larger by-size (secondStep lot q (total partSize ps)) (second-zero lot q (total partSize ps))
+      (q - total (firstStep lot q (total partSize ps)) ps) (p .number)))
 
   -- lot sharing
   pub lots-zeros : (lot q : ℕ) → SameShares ps qs (lotSharing lot q ps) (lotSharing lot q qs)

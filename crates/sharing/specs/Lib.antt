@@ -2,4 +2,6 @@ pub mod Rank
 pub mod Round
 pub mod Lots
 pub mod Setter
+pub mod Members
+pub mod Keys
 pub mod Examples

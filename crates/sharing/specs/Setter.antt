@@ -1,7 +1,8 @@
 -- Lot sharing with a price setter, the rule's variation.
 use Prim.Native.Nat.{ℕ, _-_, _*_, _/_, min}
-use mathlib.Core.Bool.{Bool, cond, _&&_}
-use mathlib.Core.List.{List, map}
+use mathlib.Core.Path.{_≡_}
+use mathlib.Core.Bool.{Bool, true, cond, _&&_}
+use mathlib.Core.List.{List, map, List·Memᴰ}
 use lib.Dec.{leb}
 use Rattle.units.specs.Lists.{any, sum, orZero, zipWith}
 use Rattle.sharing.specs.Rank.{Part, noPart}
@@ -13,6 +14,14 @@ guarantee q p = min (p .size) (2 * q / 5)
 
 abbrev pub isSetter : Part → Bool
 isSetter p = p .setter
+
+-- no order of a group has a minimum
+abbrev pub NoMinimum : List Part → Type 0
+NoMinimum ps = (p : Part) → List·Memᴰ p ps → p .minimum ≡ 0
+
+-- at most one order of a group is the setter
+abbrev pub OneSetter : List Part → Type 0
+OneSetter ps = (p q : Part) → List·Memᴰ p ps → List·Memᴰ q ps → p .setter ≡ true → q .setter ≡ true → p .number ≡ q .number
 
 -- the setter's number of a list beside the parts; 0 where there is no setter
 abbrev pub ofSetter : List Part → List ℕ → ℕ

@@ -90,6 +90,16 @@ module _ {A : Type 0} where
       go false f (List·Memᴰ·head k) ih = absurd (true≢false (sym e ∙ (ap p k ∙ f)))
       go false f (List·Memᴰ·tail k) ih = ih k
 
+  -- a filter that every element passes keeps them all
+  pub filter-all : (p : A → Bool) (xs : List A) → Every (λ x. p x ≡ true) xs → filter p xs ≡ xs
+  filter-all p [] h = refl
+  filter-all p (x ∷ xs) h = rw (h .0, filter-all p xs (h .1))
+
+  -- one that none passes keeps none
+  pub filter-none : (p : A → Bool) (xs : List A) → Every (λ x. p x ≡ false) xs → filter p xs ≡ []
+  filter-none p [] h = refl
+  filter-none p (x ∷ xs) h = rw (h .0) (filter-none p xs (h .1))
+
 module _ {A B : Type 0} where
   -- of lists one behind another
   pub every-flat : (P : B → Type 0) (f : A → List B) (xs : List A) → Every (λ x. Every P (f x)) xs → Every P (flatMap f xs)

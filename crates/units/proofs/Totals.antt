@@ -1,9 +1,10 @@
 -- Laws of totals, and of lists made number by number.
 use Prim.Native.Nat.{ℕ, _+_, _*_, _≤_}
 use mathlib.Core.Path.{_≡_, refl, sym, ap, _∙_, subst⁻¹}
-use mathlib.Core.List.{List, [], _∷_, _++_, map, append-assoc, List·Memᴰ, List·Memᴰ·head, List·Memᴰ·tail, List·Memᴰ·not-nil}
+use mathlib.Core.List.{List, [], _∷_, _++_, map, append-nil, append-assoc, List·Memᴰ, List·Memᴰ·head, List·Memᴰ·tail, List·Memᴰ·not-nil}
 use native.Mathlib.Omega.{arith}
-use native.Mathlib.Nat.{zero-add, zero-mul, add-mul}
+use native.Mathlib.Nat.{zero-add, add-comm, zero-mul, mul-zero, mul-suc, add-mul}
+use lib.ListN.{length, length-append}
 use Rattle.units.specs.Lists.{total, flatMap, zipWith}
 
 module _ {A : Type 0} where
@@ -59,6 +60,16 @@ module _ {A B : Type 0} where
   pub flat-append : (f : A → List B) (xs ys : List A) → flatMap f (xs ++ ys) ≡ flatMap f xs ++ flatMap f ys
   flat-append f [] ys = refl
   flat-append f (x ∷ xs) ys = rw (flat-append f xs ys) (sym (append-assoc (f x) (flatMap f xs) (flatMap f ys)))
+
+  -- the list of one element more
+  pub flat-last : (f : A → List B) (xs : List A) (x : A) → flatMap f (xs ++ (x ∷ [])) ≡ flatMap f xs ++ f x
+  flat-last f xs x = flat-append f xs (x ∷ []) ∙ ap (λ l. flatMap f xs ++ l) (append-nil (f x))
+
+  -- lists of one length, one behind another
+  pub length-flat : (f : A → List B) (w : ℕ) → ((x : A) → length (f x) ≡ w) → (xs : List A) → length (flatMap f xs) ≡ w * length xs
+  length-flat f w h [] = sym (mul-zero w)
+  length-flat f w h (x ∷ xs) =
+      length-append (f x) (flatMap f xs) ∙ rw (h x, length-flat f w h xs, mul-suc w (length xs)) (add-comm w (w * length xs))
 
   -- over lists one behind another
   pub total-flat : (f : B → ℕ) (g : A → List B) (xs : List A) → total f (flatMap g xs) ≡ total (λ x. total f (g x)) xs

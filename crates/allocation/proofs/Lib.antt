@@ -1,0 +1,10 @@
+pub mod Stretch
+pub mod Crediting
+pub mod Turns
+pub mod Losses
+pub mod After
+pub mod Toward
+pub mod Starting
+pub mod Passing
+pub mod InTurn
+pub mod Prices

@@ -1,1 +1,0 @@
-// The cases of the scope. Its definitions hold the starred ones, settled by one computation.

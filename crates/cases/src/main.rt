@@ -1,0 +1,161 @@
+// The cases of the scope, run on lent bytes. Its definitions hold the starred ones, settled by one computation.
+fn add(book: &mut [u8], side: u32, kind: u32, order: u32, price: u32, size: u32, minimum: u32) {
+    let refusal = entry::add(book, side, kind, order, price, size, minimum);
+    report::text(b"add");
+    report::number(order);
+    report::text(b" refusal");
+    report::number(refusal);
+    report::text(b"\n");
+}
+
+// A resting sell at 100000: displayed, non-displayed, or with a minimum.
+fn displayed(book: &mut [u8], order: u32, size: u32) {
+    add(book, 2, 1, order, 100_000, size, 0);
+}
+
+fn non_displayed(book: &mut [u8], order: u32, size: u32) {
+    add(book, 2, 2, order, 100_000, size, 0);
+}
+
+fn minimum_quantity(book: &mut [u8], order: u32, size: u32, minimum: u32) {
+    add(book, 2, 3, order, 100_000, size, minimum);
+}
+
+// An incoming order, its executions, and the book afterwards. The execution buffer has bytes 7 at first, and those behind the executions stay.
+fn incoming(book: &mut [u8], side: u32, limit: u32, size: u32, algorithm: u32) {
+    let mut space = [7u8; 80];
+    let buffer: &mut [u8] = &mut space;
+    report::call(side, limit, size, algorithm);
+    let taken = take::take(book, buffer, side, limit, size, algorithm);
+    report::answer(taken, buffer);
+    report::book(book);
+}
+
+fn buy(book: &mut [u8], size: u32, algorithm: u32) {
+    incoming(book, 1, 100_000, size, algorithm);
+}
+
+// The case's letter.
+fn case(letter: &[u8]) {
+    report::text(b"case ");
+    report::text(letter);
+    report::text(b"\n");
+}
+
+// Cases a and b.
+fn three_displayed(letter: &[u8], size: u32) {
+    case(letter);
+    let mut space = [0u8; 128];
+    let book: &mut [u8] = &mut space;
+    displayed(book, 1, 600);
+    displayed(book, 2, 400);
+    displayed(book, 3, 300);
+    buy(book, size, 2);
+}
+
+// Cases c, d and e: order 2 sets the better price.
+fn better_price(letter: &[u8], second: u32, third: u32, size: u32) {
+    case(letter);
+    let mut space = [0u8; 128];
+    let book: &mut [u8] = &mut space;
+    add(book, 2, 1, 1, 100_100, 1_000, 0);
+    displayed(book, 2, second);
+    displayed(book, 3, third);
+    displayed(book, 4, 1_000);
+    buy(book, size, 3);
+}
+
+// Cases f, h, i and o.
+fn two_displayed(letter: &[u8], first: u32, second: u32, size: u32, algorithm: u32) {
+    case(letter);
+    let mut space = [0u8; 128];
+    let book: &mut [u8] = &mut space;
+    displayed(book, 1, first);
+    displayed(book, 2, second);
+    buy(book, size, algorithm);
+}
+
+// Case g, and what plain sharing gives.
+fn case_g(algorithm: u32) {
+    case(b"g");
+    let mut space = [0u8; 128];
+    let book: &mut [u8] = &mut space;
+    displayed(book, 1, 300);
+    displayed(book, 2, 250);
+    displayed(book, 3, 250);
+    displayed(book, 4, 200);
+    buy(book, 500, algorithm);
+}
+
+fn case_j(size: u32) {
+    case(b"j");
+    let mut space = [0u8; 128];
+    let book: &mut [u8] = &mut space;
+    minimum_quantity(book, 1, 500, 400);
+    minimum_quantity(book, 2, 400, 300);
+    buy(book, size, 2);
+}
+
+fn case_k(algorithm: u32) {
+    case(b"k");
+    let mut space = [0u8; 128];
+    let book: &mut [u8] = &mut space;
+    non_displayed(book, 1, 50);
+    minimum_quantity(book, 2, 200, 200);
+    buy(book, 220, algorithm);
+}
+
+fn case_l() {
+    case(b"l");
+    let mut space = [0u8; 128];
+    let book: &mut [u8] = &mut space;
+    minimum_quantity(book, 1, 300, 300);
+    non_displayed(book, 2, 100);
+    buy(book, 150, 1);
+}
+
+// A sell meets a buy above its limit.
+fn case_m() {
+    case(b"m");
+    let mut space = [0u8; 128];
+    let book: &mut [u8] = &mut space;
+    add(book, 1, 1, 1, 100_000, 300, 0);
+    incoming(book, 2, 90_000, 100, 1);
+}
+
+// A book without room for any record.
+fn case_n(algorithm: u32) {
+    case(b"n");
+    let mut space = [0u8; 0];
+    let book: &mut [u8] = &mut space;
+    buy(book, 10, algorithm);
+    displayed(book, 1, 10);
+}
+
+fn displayed_cases() {
+    three_displayed(b"a", 1_200);
+    three_displayed(b"b", 80);
+    better_price(b"c", 1_000, 3_000, 1_000);
+    better_price(b"d", 3_000, 1_000, 1_000);
+    better_price(b"e", 1_000, 3_000, 80);
+    two_displayed(b"f", 150, 150, 290, 2);
+    case_g(3);
+    case_g(2);
+    two_displayed(b"h", 100, 900, 500, 3);
+    two_displayed(b"i", 99, 100, 100, 2);
+    two_displayed(b"i", 99, 100, 100, 1);
+}
+
+fn main() {
+    displayed_cases();
+    case_j(350);
+    case_j(299);
+    case_k(2);
+    case_k(1);
+    case_l();
+    case_m();
+    case_n(1);
+    case_n(2);
+    case_n(3);
+    two_displayed(b"o", 300, 200, 80, 3);
+}

@@ -1,0 +1,4 @@
+pub mod Ranking
+pub mod Lowest
+pub mod Rising
+pub mod NextLevel

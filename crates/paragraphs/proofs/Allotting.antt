@@ -1,0 +1,179 @@
+-- What a paragraph allots to the parts that a level meets.
+use Prim.Native.Nat.{ℕ, _≤_, _<_}
+use mathlib.Core.Path.{_≡_, refl, sym, ap, _∙_}
+use mathlib.Core.Bool.{Bool, true}
+use mathlib.Core.List.{List, [], _∷_, map, map-map}
+use native.Mathlib.Omega.{arith}
+use lib.ListN.{length}
+use lib.Dec.{leb}
+use Rattle.units.specs.Lists.{total}
+use Rattle.units.proofs.Members.{Every, every-member}
+use Rattle.sharing.specs.declared.group.Member.{Member}
+use Rattle.sharing.specs.Rank.{Part, partSize, byTime, larger, smallerMinimum, Rising}
+use Rattle.sharing.specs.Round.{round}
+use Rattle.sharing.specs.Lots.{divided, lotSharing}
+use Rattle.sharing.specs.Setter.{NoMinimum, OneSetter, setterSharing}
+use Rattle.sharing.specs.Members.{partsOf}
+use Rattle.sharing.proofs.Ranks.{Weak, by-time, by-size, by-minimum}
+use Rattle.sharing.proofs.Filled.{Filled, round-filled}
+use Rattle.orders.specs.declared.order.Order.{Order}
+use Rattle.orders.specs.declared.order.Taker.{Taker}
+use Rattle.orders.specs.Order.{shown}
+use Rattle.record.proofs.Orders.{OrderSound, order-facts}
+use Rattle.book.specs.Sound.{rising, settersSound, ordersOf}
+use Rattle.book.proofs.Soundness.{OrdersSound, orders-sound}
+use Rattle.matching.specs.declared.Algorithm.{Algorithm}
+use Rattle.matching.specs.declared.Algorithm.the-variants.{PriceTime, ProRata, PriceSetter}
+use Rattle.matching.specs.declared.Paragraph.{Paragraph}
+use Rattle.matching.specs.declared.Paragraph.the-variants.{Two, Three, Four, Five, Six}
+use Rattle.matching.specs.Paragraph.{Group, groupOf, proRataGroup, partOf, proRataShares, allot}
+use Rattle.matching.specs.Take.{allocationAt}
+use Rattle.matching.proofs.Parts.{parts-rising, partsAt}
+use Rattle.matching.proofs.Groups.{one-setter, free-parts, shown-free, hidden-free}
+use Rattle.matching.proofs.Allotting.{allotment-filled}
+use Rattle.paragraphs.specs.declared.Level.{Level}
+use Rattle.paragraphs.specs.Standing.{groupAt, reachable, partsMet}
+use Rattle.paragraphs.specs.Meeting.{Meets}
+use Rattle.paragraphs.specs.Shareable.{Shareable}
+use Rattle.paragraphs.proofs.MetParts.{met-least, records, total-fits}
+use Rattle.paragraphs.proofs.Reachable.{reach-rising, reach-one, reach-free, reach-round}
+use Rattle.paragraphs.proofs.Whole.{filled-whole}
+
+-- a group in which no order has a minimum
+abbrev Free : Group → Type 0
+Free group = (t : Taker) (price : ℕ) (os : List Order) → Every (λ p. p .minimum ≡ 0) (map (partOf t price group) os)
+
+-- How a group shares: by turns, or without minimums.
+data Way (group : Group) (share : ℕ → List Part → List ℕ) : Type 0 where
+  turns : (before : Part → Part → Bool) → Weak before → ((left : ℕ) (ps : List Part) → share left ps ≡ round before partSize left ps) → Way group share
+  free : Free group → Way group share
+
+-- displayed orders have none
+displayed-free : (holds : Bool → ℕ → Bool) → Free (record { visibility = shown; holds = holds })
+displayed-free holds t price os = free-parts t price (record { visibility = shown; holds = holds }) (shown-free holds) os
+
+-- pro rata, whatever way it shares in paragraph 2
+pro-rata-way : (displayedLots : ℕ → ℕ → List Part → List ℕ) (lot : ℕ) (g : Paragraph) → Way (proRataGroup lot g) (proRataShares displayedLots lot g)
+pro-rata-way displayedLots lot Two = free (displayed-free (λ m n. leb lot n))
+pro-rata-way displayedLots lot Three = turns larger by-size (λ left ps. refl)
+pro-rata-way displayedLots lot Four = free (λ t price os. free-parts t price (proRataGroup lot Four) (hidden-free (λ n. leb lot n)) os)
+pro-rata-way displayedLots lot Five = turns smallerMinimum by-minimum (λ left ps. refl)
+pro-rata-way displayedLots lot Six = turns larger by-size (λ left ps. refl)
+
+-- every paragraph shares in one of the two ways
+way : (lot : ℕ) (alg : Algorithm) (g : Paragraph) → Way (groupOf lot alg g) (allot lot alg g)
+way lot PriceTime g = turns byTime by-time (λ left ps. refl)
+way lot ProRata g = pro-rata-way lotSharing lot g
+way lot PriceSetter g = pro-rata-way setterSharing lot g
+
+-- in paragraph 2 no order has a minimum
+two-free : (lot : ℕ) (alg : Algorithm) → Free (groupOf lot alg Two)
+two-free lot PriceTime = displayed-free (λ m n. true)
+two-free lot ProRata = displayed-free (λ m n. leb lot n)
+two-free lot PriceSetter = displayed-free (λ m n. leb lot n)
+
+module _ (l : Level) (g : Paragraph) (os : List Order) where
+  -- the definition's parts
+  abbrev parts : List Part
+  parts = partsAt (l .lot .0) (l .algorithm) (l .taker) os (l .price .0) g
+
+  -- the parts that are met, made of them
+  met-parts : partsMet l g os ≡ map (reachable (l .reach .0)) parts
+  met-parts = sym (map-map (reachable (l .reach .0)) (partOf (l .taker) (l .price .0) (groupAt l g)) os)
+
+  -- where none has a minimum all are met
+  met-all : Free (groupAt l g) → partsMet l g os ≡ parts
+  met-all z = met-parts ∙ reach-free (l .reach .0) parts (z (l .taker) (l .price .0) os)
+
+  -- the numbers of the parts that are met rise
+  met-rising : rising 0 os ≡ true → Rising 0 (partsMet l g os)
+  met-rising rise = rw met-parts (reach-rising (l .reach .0) 0 parts (parts-rising (l .taker) (l .price .0) (groupAt l g) 0 os rise))
+
+  -- at most one of them is the setter
+  met-one : settersSound os ≡ true → OneSetter (partsMet l g os)
+  met-one setters = rw met-parts (reach-one (l .reach .0) parts (one-setter (l .taker) (l .price .0) (groupAt l g) os setters))
+
+-- in paragraph 2 none of them has a minimum
+met-free : (l : Level) (g : Paragraph) (os : List Order) → g ≡ Two → NoMinimum (partsMet l g os)
+met-free l g os e =
+    let z = two-free (l .lot .0) (l .algorithm) in
+    rw (e, met-all l Two os z) (every-member (λ p. p .minimum ≡ 0) (parts l Two os) (z (l .taker) (l .price .0) os))
+
+-- each minimum is within the size
+least : (l : Level) (g : Paragraph) (os : List Order) → Every OrderSound os → Every (λ p. p .minimum ≤ p .size) (partsMet l g os)
+least l g [] s = tt
+least l g (o ∷ os) s = (met-least l g o (order-facts o (s .0) .minimum-most), least l g os (s .1))
+
+-- what a paragraph gives the parts of the shares left
+abbrev given : Level → Paragraph → ℕ → List Part → List ℕ
+given l g left ps = allot (l .lot .0) (l .algorithm) g left ps
+
+-- what the definition allots
+abbrev allotted : Level → Paragraph → List Order → ℕ → List ℕ
+allotted l g os left = allocationAt (l .lot .0) (l .algorithm) (l .taker) os (l .price .0) g left .allotment
+
+-- The orders of a sound book, and shares that reach the price.
+module _ (l : Level) (g : Paragraph) (os : List Order) (s : OrdersSound os) (left : ℕ) (h : left ≤ l .reach .0) where
+  -- the parts that are met are allotted what the definition's parts are
+  met-allotted : given l g left (partsMet l g os) ≡ allotted l g os left
+  unfolding allocationAt
+  met-allotted = go (way (l .lot .0) (l .algorithm) g)
+    where
+      ps : List Part
+      ps = parts l g os
+
+      go : Way (groupAt l g) (given l g) → given l g left (partsMet l g os) ≡ given l g left ps
+      go (turns before w e) =
+          ap (given l g left) (met-parts l g os) ∙ e left (map (reachable (l .reach .0)) ps)
+          ∙ reach-round (l .reach .0) before w 0 ps (parts-rising (l .taker) (l .price .0) (groupAt l g) 0 os (s .rise)) left h ∙ sym (e left ps)
+      go (free z) = ap (given l g left) (met-all l g os z)
+
+  module _ (hasLot : 0 < l .lot .0) where
+    -- what they are given fills them as far as it goes
+    met-filled : Filled left (partsMet l g os) (given l g left (partsMet l g os))
+    unfolding allocationAt
+    met-filled = go (way (l .lot .0) (l .algorithm) g)
+      where
+        go : Way (groupAt l g) (given l g) → Filled left (partsMet l g os) (given l g left (partsMet l g os))
+        go (turns before w e) = rw (e left (partsMet l g os)) (round-filled before 0 (partsMet l g os) (met-rising l g os (s .rise)) left)
+        go (free z) =
+            rw (met-all l g os z)
+            (allotment-filled (l .lot .0) hasLot (l .taker) os (s .rise) (s .setters) (l .price .0) left (l .algorithm) g)
+
+    -- where they fit into the shares left, each is filled
+    met-whole : total partSize (partsMet l g os) ≤ left → map partSize (partsMet l g os) ≡ allotted l g os left
+    met-whole k = sym (filled-whole left (partsMet l g os) (given l g left (partsMet l g os)) met-filled (least l g os (s .each)) k) ∙ met-allotted
+
+-- where a group has more than the shares left, they are the shares divided
+pub divided-left : (left : ℕ) (ps : List Part) → left ≤ total partSize ps → divided left ps ≡ left
+divided-left left ps h = omega arith
+
+-- A level that meets a book.
+module _ {l : Level} {s ranks : List ℕ} (m : Meets l s ranks) (g : Paragraph) (left : ℕ) where
+  abbrev met : List Part
+  met = partsMet l g (ordersOf s)
+
+  -- its group can share fewer shares than its total
+  pub met-shareable : {group : List Member} → partsOf (length ranks) group ≡ met → left ≤ total partSize met
+      → Shareable (length ranks) group g left (l .lot .0)
+  met-shareable e h =
+      let os = ordersOf s in
+      let o = orders-sound s (m .isSound) in
+      record {
+        most = records m .few;
+        hasLot = m .hasLot;
+        fewer = rw e h;
+        fits = rw e (omega (arith, total-fits m g));
+        rise = rw e (met-rising l g os (o .rise));
+        oneSetter = rw e (met-one l g os (o .setters));
+        noMinimum = λ q. rw e (met-free l g os q);
+      }
+
+  module _ (h : left ≤ l .reach .0) where
+    -- the sizes are what the paragraph allots, where they fit into the shares left
+    pub sizes-allotted : {ns : List ℕ} → ns ≡ map partSize met → total partSize met ≤ left → ns ≡ allotted l g (ordersOf s) left
+    sizes-allotted e k = e ∙ met-whole l g (ordersOf s) (orders-sound s (m .isSound)) left h (m .hasLot) k
+
+    -- and what the group shares is
+    pub shares-allotted : {ps : List Part} → ps ≡ met → {ns : List ℕ} → ns ≡ given l g left ps → ns ≡ allotted l g (ordersOf s) left
+    shares-allotted q e = e ∙ ap (given l g left) q ∙ met-allotted l g (ordersOf s) (orders-sound s (m .isSound)) left h

@@ -1,0 +1,105 @@
+// The groups of a price level's paragraphs, one entry for each record of the book.
+use crate::Level;
+use crate::standing;
+use book::records;
+use book::records::RECORD_BYTES;
+use matching::Paragraph;
+use orders::order::Order;
+use sharing::group;
+use sharing::group::Member;
+use sharing::rounds;
+use units::Shares;
+ghost use mathlib.Core.Path.{_≡_};
+ghost use mathlib.Core.List.{map};
+ghost use Prim.Native.Nat.{ℕ, _+_, _≤_, _<_};
+ghost use lib.ListN.{length, getD};
+ghost use Rattle.units.specs.Lists.{total, zipWith};
+ghost use Rattle.sharing.specs.Rank.{partSize};
+ghost use Rattle.sharing.specs.Members.{partsOf, countsOf};
+ghost use Rattle.matching.specs.Paragraph.{paragraphs};
+ghost use Rattle.book.specs.Sound.{ordersOf};
+ghost use Rattle.paragraphs.specs.Standing.{standing, partsMet};
+ghost use Rattle.paragraphs.specs.Meeting.{Meets};
+
+fn no_totals() -> [Shares; 5]
+    ensures { λ r. ⌜ countsOf 5 r ≡ map (λ g. 0) paragraphs ⌝ }
+{
+    [Shares(0); 5]
+}
+
+// The totals with an order of the level.
+fn with_order(totals: [Shares; 5], level: Level, order: Order) -> [Shares; 5]
+    requires { ⌜ ((i : ℕ) → i < 5 → getD (countsOf 5 totals) i 0 ≤ 256000000) × (order .size .0 ≤ 999999) ⌝ }
+    ensures { λ r. ⌜ countsOf 5 r ≡ zipWith _+_ (countsOf 5 totals) (map (λ g. standing level g order) paragraphs) ⌝ }
+{
+    let mut sums = totals;
+    for k in 0..5 {
+        let before = sums[k];
+        let more = standing::standing(level, Paragraph::at(k), order);
+        sums[k] = Shares(before.0 + more.0);
+    }
+    sums
+}
+
+// The total of each paragraph's group at the level.
+pub fn totals(book: &[u8], ranks: &[u32], level: Level) -> [Shares; 5]
+    requires { ⌜ Meets level (now book) (now ranks) ⌝ }
+    ensures { λ r. ⌜ countsOf 5 r ≡ map (λ g. total partSize (partsMet level g (ordersOf (now (book .entry))))) paragraphs ⌝ }
+{
+    let mut totals = no_totals();
+    let mut i = level.from;
+    while i < level.to {
+        if ranks[i] == level.rank {
+            let order = records::order_at(book, RECORD_BYTES * i);
+            let sums = with_order(totals, level, order);
+            totals = sums;
+        }
+        i += 1;
+    }
+    totals
+}
+
+// The sizes in the paragraph's group, one for each record.
+pub(crate) fn sizes(book: &[u8], ranks: &[u32], level: Level, paragraph: Paragraph) -> [Shares; 256]
+    requires { ⌜ Meets level (now book) (now ranks) ⌝ }
+    ensures { λ r. ⌜ countsOf (length (now (ranks .entry))) r ≡ map partSize (partsMet level paragraph (ordersOf (now (book .entry)))) ⌝ }
+{
+    let mut sizes = rounds::no_shares();
+    let mut i = level.from;
+    while i < level.to {
+        if ranks[i] == level.rank {
+            let order = records::order_at(book, RECORD_BYTES * i);
+            sizes[i] = standing::standing(level, paragraph, order);
+        }
+        i += 1;
+    }
+    sizes
+}
+
+fn no_members() -> [Member; 256] {
+    [group::nobody(0); 256]
+}
+
+// The paragraph's group, one member for each record.
+pub(crate) fn members(
+    book: &[u8],
+    ranks: &[u32],
+    level: Level,
+    paragraph: Paragraph,
+) -> [Member; 256]
+    requires { ⌜ Meets level (now book) (now ranks) ⌝ }
+    ensures { λ r. ⌜ partsOf (length (now (ranks .entry))) r ≡ partsMet level paragraph (ordersOf (now (book .entry))) ⌝ }
+{
+    let mut members = no_members();
+    let mut i = 0;
+    while i < ranks.len() {
+        let order = records::order_at(book, RECORD_BYTES * i);
+        if ranks[i] == level.rank {
+            members[i] = standing::member(level, paragraph, order);
+        } else {
+            members[i] = group::nobody(order.number);
+        }
+        i += 1;
+    }
+    members
+}

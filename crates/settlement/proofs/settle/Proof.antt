@@ -1,0 +1,54 @@
+-- `settlement::settle` meets its contract: the first i orders have lost their shares.
+use Prim.Native.Nat.{_-_, _<_}
+use mathlib.Core.Path.{_∙_}
+use mathlib.Core.Logic.{⊎-elim}
+use native.Mathlib.Omega.{arith}
+use borrow.Author.Needs.{needs}
+use lib.ListN.{length}
+use Rattle.record.proofs.Numbers.{are-bytes}
+use Rattle.book.specs.Sound.{ordersOf}
+use Rattle.settlement.proofs.Passing.{Passed, passed-none, passed-gone, passed-kept, passed-done}
+use Rattle.settlement.proofs.settle.Statement.{statement}
+use Rattle.settlement.proofs.settle.Tie as tie
+
+abbrev Inv-loop : tie.InvT-loop
+Inv-loop book₀ n shown hidden i₀ kept₀ book i kept = Passed book₀ shown hidden book i kept
+
+abbrev μ-loop : tie.MeasureT-loop
+μ-loop book₀ n shown hidden i₀ kept₀ book i kept = n - i
+
+loop-holds : tie.Need-loop-holds Inv-loop μ-loop
+loop-holds c = passed-none (c .before .pre .0) (search needs) (search needs)
+
+loop-again : tie.Need-loop-again Inv-loop μ-loop
+loop-again c =
+    let k = c .before .before in
+    let r = k .before in
+    let q = r .before .before .before in
+    let l = q .before .before .before in
+    let a = l .before .before .args in
+    let h : l .loop .i < length (ordersOf (a .book .now)) = search needs in
+    ⊎-elim
+    (λ w. rw (w .5, w .6, w .2 .ensures)
+    (passed-kept (l .loop .inv) h _ _ (q .order-at .ensures) (r .settled .ensures) (k .shares .ensures) (w .0 .taken)))
+    (λ w. rw (w .1, w .2)
+    (passed-gone (l .loop .inv) h _ _ (q .order-at .ensures) (r .settled .ensures) (k .shares .ensures) (w .0 .left)))
+    (c .if1 .came)
+
+returns : tie.Need-returns Inv-loop μ-loop
+returns c =
+    let r = c .before .before in
+    let l = r .before .before .before in
+    let e = l .before in
+    let a = e .before .args in
+    let z = are-bytes (a .book .now) (λ k. omega (arith, e .slice-known .given k)) in
+    r .clear .ensures ∙ passed-done (l .loop .inv) (e .before .pre .0) z (a .n) (search needs) (e .before .pre .1)
+
+pub settle-spec : {M : Type 1} → statement M
+settle-spec =
+    tie.close
+    (tie.spec
+    Inv-loop μ-loop loop-holds (λ c. search needs) (λ c κs. search needs) (λ c. search needs) (λ c. search needs)
+    (λ c. search needs) (λ c. search needs) (λ c κs. search needs) (λ c κs. search needs) (λ c. search needs) (λ c κs. search needs)
+    (λ c. search needs) (λ c. search needs) (λ c. search needs) loop-again (λ c. search needs) (λ c. search needs) (λ c. search needs)
+    (λ c κs. search needs) (λ c. search needs) returns)

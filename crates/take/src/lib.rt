@@ -1,0 +1,109 @@
+// The call take. It decides by value, from bytes that it only reads, and then writes what was decided.
+use allocation::walk;
+use matching::Algorithm;
+use matching::TakeRequest;
+use matching::Taken;
+use matching::incoming::Incoming;
+use orders::order::Side;
+use orders::order::Taker;
+use orders::range;
+use settlement::EXECUTION_BYTES;
+use units::Price;
+use units::Shares;
+ghost use mathlib.Core.Path.{_≡_};
+ghost use mathlib.Core.Bool.{true};
+ghost use Rattle.book.specs.Sound.{sound};
+ghost use Rattle.matching.specs.TakeCall.{requestInRange, incomingOf, takeCall};
+ghost use Rattle.matching.specs.Fairness.{FairTake};
+
+// Whether the numbers are in their ranges.
+fn in_range(q: TakeRequest) -> bool
+    ensures { λ r. ⌜ r ≡ requestInRange q ⌝ }
+{
+    units::in_range(1, 2, q.side)
+        & range::price_in_range(q.limit)
+        & range::shares_in_range(q.size)
+        & units::in_range(1, 3, q.algorithm)
+}
+
+// The incoming order that they say.
+fn incoming_of(q: TakeRequest) -> Incoming
+    ensures { λ r. ⌜ r ≡ incomingOf q ⌝ }
+{
+    let taker = Taker {
+        side: Side::of(q.side),
+        limit: Price(q.limit),
+    };
+    Incoming {
+        taker,
+        size: Shares(q.size),
+    }
+}
+
+// A refused take's answer.
+fn refused(refusal: u32) -> Taken
+    ensures { λ r. ⌜ r ≡ record { refusal = refusal; count = 0; left = 0 } ⌝ }
+{
+    Taken {
+        refusal,
+        count: 0,
+        left: 0,
+    }
+}
+
+// An incoming order takes shares from the orders of the book. Its executions go into the second buffer, from its start. The numbers may
+// have any value.
+pub fn take(
+    book: &mut [u8],
+    executions: &mut [u8],
+    side: u32,
+    limit: u32,
+    size: u32,
+    algorithm: u32,
+) -> Taken
+    ensures taken { λ r. ⌜ r ≡ takeCall (record { side = side; limit = limit; size = size; algorithm = algorithm }) (now (book .entry)) (now (executions .entry)) .taken ⌝ }
+    ensures book_bytes { λ r. ⌜ now (book .exit) ≡ takeCall (record { side = side; limit = limit; size = size; algorithm = algorithm }) (now (book .entry)) (now (executions .entry)) .book ⌝ }
+    ensures execution_bytes { λ r. ⌜ now (executions .exit) ≡ takeCall (record { side = side; limit = limit; size = size; algorithm = algorithm }) (now (book .entry)) (now (executions .entry)) .executions ⌝ }
+    ensures fair { λ r. ⌜ FairTake (record { side = side; limit = limit; size = size; algorithm = algorithm }) (now (book .entry)) (record { taken = r; book = now (book .exit); executions = now (executions .exit) }) ⌝ }
+    ensures kept_sound { λ r. ⌜ (r .refusal ≡ 0 → sound (now (book .exit)) ≡ true) ⌝ }
+{
+    let request = TakeRequest {
+        side,
+        limit,
+        size,
+        algorithm,
+    };
+    if !in_range(request) {
+        return refused(1);
+    }
+    let checked = lookup::check(book);
+    let refusal = checked.refusal;
+    if refusal != 0 {
+        return refused(refusal);
+    }
+    let n = checked.orders as usize;
+    let progress = walk::allocate(
+        book,
+        n,
+        incoming_of(request),
+        Algorithm::of(algorithm),
+        units::round_lot(),
+    );
+    let log = progress.log;
+    let count = log.count;
+    if executions.len() / EXECUTION_BYTES < count {
+        return refused(8);
+    }
+    let incoming = progress.incoming;
+    let left = incoming.size;
+    let list = log.executions;
+    let shown = progress.shown;
+    let hidden = progress.hidden;
+    settlement::write_executions(executions, list, count);
+    settlement::settle(book, n, shown, hidden);
+    Taken {
+        refusal: 0,
+        count: count as u32,
+        left: left.0,
+    }
+}
