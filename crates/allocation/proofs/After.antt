@@ -9,19 +9,21 @@ use Rattle.units.proofs.Totals.{total-append, flat-append}
 use Rattle.orders.specs.declared.order.Order.{Order}
 use Rattle.orders.specs.Order.{Interest}
 use Rattle.record.specs.declared.execution.Execution.{Execution}
+use Rattle.record.specs.Execution.{encodeExecution}
 use Rattle.matching.specs.Paragraph.{paragraphNumber}
 use Rattle.matching.specs.Take.{Allocation, used, executionsBy, executionsOf, lossesOf}
 use Rattle.matching.proofs.Entries.{Aligned}
-use Rattle.allocation.specs.Progress.{State, credit, after}
-use Rattle.allocation.proofs.Stretch.{part-of-sum, executions-none}
+use Rattle.ledger.specs.Progress.{State, inBytes, credit}
+use Rattle.allocation.specs.Walk.{after}
+use Rattle.ledger.proofs.Stretch.{part-of-sum, executions-none}
 use Rattle.allocation.proofs.Losses.{addedUp, added-assoc, added-none, losses-append, losses-one, losses-unused}
 
-abbrev state : List Execution → List Interest → ℕ → State
-state es ls left = record { executions = es; losses = ls; left = left }
+abbrev state : List ℕ → List Interest → ℕ → State
+state bs ls left = record { logged = bs; losses = ls; left = left }
 
 -- states that have the same are the same
-same-state : {es fs : List Execution} {ls ms : List Interest} {m n : ℕ} → es ≡ fs → ls ≡ ms → m ≡ n → state es ls m ≡ state fs ms n
-same-state {es} {fs} {ls} {ms} {m} {n} a b c = ap₂ (λ x y. state x y m) a b ∙ ap (state fs ms) c
+same-state : {bs cs : List ℕ} {ls ms : List Interest} {m n : ℕ} → bs ≡ cs → ls ≡ ms → m ≡ n → state bs ls m ≡ state cs ms n
+same-state {bs} {cs} {ls} {ms} {m} {n} a b c = ap₂ (λ x y. state x y m) a b ∙ ap (state cs ms) c
 
 module _ (os : List Order) where
   -- the executions of an allocation
@@ -47,8 +49,9 @@ module _ (os : List Order) where
     unfolding after
     after-append rows more =
         same-state
-        (ap (λ es. s .executions ++ es) (executions-append rows more)
-        ∙ sym (append-assoc (s .executions) (executionsOf os rows) (executionsOf os more)))
+        (ap (λ es. s .logged ++ inBytes es) (executions-append rows more)
+        ∙ ap (λ bs. s .logged ++ bs) (flat-append encodeExecution (executionsOf os rows) (executionsOf os more))
+        ∙ sym (append-assoc (s .logged) (inBytes (executionsOf os rows)) (inBytes (executionsOf os more))))
         (ap (addedUp (s .losses)) (losses-append os rows more) ∙ sym (added-assoc (s .losses) (lossesOf os rows) (lossesOf os more)))
         (omega (arith, total-append used rows more))
 
@@ -57,12 +60,12 @@ module _ (os : List Order) where
         → after os s (a ∷ []) ≡ credit os (paragraphNumber (a .paragraph)) (a .price) (a .visibility) (a .allotment) s
     unfolding after executionsOf credit
     after-one a h =
-        same-state (ap (λ es. s .executions ++ es) (append-nil (made a))) (ap (addedUp (s .losses)) (losses-one os a h)) (omega arith)
+        same-state (ap (λ es. s .logged ++ inBytes es) (append-nil (made a))) (ap (addedUp (s .losses)) (losses-one os a h)) (omega arith)
 
     -- those that use up nothing change nothing
     pub after-unused : length (s .losses) ≤ length os → (rows : List Allocation) → Aligned os rows → total used rows ≡ 0 → after os s rows ≡ s
     unfolding after
     after-unused l rows h z =
-        same-state (ap (λ es. s .executions ++ es) (executions-unused rows z) ∙ append-nil (s .executions))
+        same-state (ap (λ es. s .logged ++ inBytes es) (executions-unused rows z) ∙ append-nil (s .logged))
         (ap (addedUp (s .losses)) (losses-unused os rows h z) ∙ added-none os (s .losses) l)
         (omega arith)

@@ -12,20 +12,19 @@ use lib.Seq.{drop-cons}
 use Rattle.units.specs.declared.Shares.{Shares}
 use Rattle.units.specs.Lists.{total}
 use Rattle.sharing.specs.Rank.{partSize}
-use Rattle.sharing.specs.Members.{countOf, countsOf}
-use Rattle.sharing.proofs.Arrays.{at-map, front-at}
+use Rattle.turns.specs.Members.{countOf, countsOf}
+use Rattle.turns.proofs.Arrays.{at-map, front-at}
 use Rattle.orders.specs.declared.order.Order.{Order}
 use Rattle.book.specs.Sound.{ordersOf}
 use Rattle.matching.specs.declared.Paragraph.{Paragraph}
 use Rattle.matching.specs.declared.Paragraph.the-variants.{Six}
 use Rattle.matching.specs.Paragraph.{paragraphs}
 use Rattle.matching.specs.Take.{Allocation, used, allocationsAt}
-use Rattle.paragraphs.specs.declared.Level.{Level}
-use Rattle.paragraphs.specs.Standing.{partsMet}
-use Rattle.paragraphs.specs.Meeting.{Meets}
-use Rattle.allocation.specs.declared.Progress.{Progress}
-use Rattle.allocation.specs.Progress.{State, stateOf, after, sharesAt, Bounded}
-use Rattle.allocation.specs.Walk.{rowAt, rowsAt, Roomy}
+use Rattle.standing.specs.declared.Level.{Level}
+use Rattle.standing.specs.Standing.{partsMet}
+use Rattle.groups.specs.Meeting.{Meets}
+use Rattle.ledger.specs.Progress.{State, Ledger, stateOf, sharesAt, Bounded}
+use Rattle.allocation.specs.Walk.{after, rowAt, rowsAt, Roomy}
 use Rattle.allocation.proofs.Toward.{Toward, executions-after, left-after, toward-room, toward-done, toward-more, toward-skip}
 use Rattle.allocation.proofs.Passing.{row-aligned, row-unused}
 
@@ -34,13 +33,13 @@ abbrev pub paragraphAt : ℕ → Paragraph
 paragraphAt k = getD paragraphs k Six
 
 -- The level meets the book. The paragraphs from place k on are still to come, and no more shares are left than reached the level.
-pub record InTurn (l : Level) (s ranks : List ℕ) (aim : State) (p : Progress) (k : ℕ) : Type 0 where
+pub record InTurn (l : Level) (s ranks : List ℕ) (aim : State) (p : Ledger) (k : ℕ) : Type 0 where
   pub meets : Meets l s ranks
   pub within : p .incoming .size .0 ≤ l .reach .0
   pub toward : Toward (ordersOf s) aim p (rowsAt l (ordersOf s) (drop k paragraphs) (p .incoming .size .0))
 
 -- before the first
-pub in-turn-none : {l : Level} {s ranks : List ℕ} → Meets l s ranks → {p : Progress} → p .incoming .size .0 ≤ l .reach .0 → Bounded p
+pub in-turn-none : {l : Level} {s ranks : List ℕ} → Meets l s ranks → {p : Ledger} → p .incoming .size .0 ≤ l .reach .0 → Bounded p
     → Roomy (ordersOf s) p (rowsAt l (ordersOf s) paragraphs (p .incoming .size .0))
     → InTurn l s ranks (after (ordersOf s) (stateOf (length (ordersOf s)) p) (rowsAt l (ordersOf s) paragraphs (p .incoming .size .0))) p 0
 in-turn-none {l} {s} m {p} h b r =
@@ -71,7 +70,7 @@ size-at l os xs e {k} h q =
     ∙ at-map (sizeOf l os) paragraphs k Six 0 h
     ∙ ap (sizeOf l os) (sym q)
 
-module _ {l : Level} {s ranks : List ℕ} {aim : State} {p : Progress} {k : ℕ} (w : InTurn l s ranks aim p k) where
+module _ {l : Level} {s ranks : List ℕ} {aim : State} {p : Ledger} {k : ℕ} (w : InTurn l s ranks aim p k) where
   abbrev os : List Order
   os = ordersOf s
 
@@ -102,7 +101,7 @@ module _ {l : Level} {s ranks : List ℕ} {aim : State} {p : Progress} {k : ℕ}
     in-turn-room = toward-room row rest coming
 
     -- the order has passed it
-    pub in-turn-more : {r : Progress} → stateOf (length os) r ≡ after os (stateOf (length os) p) row → Bounded r → InTurn l s ranks aim r (k + 1)
+    pub in-turn-more : {r : Ledger} → stateOf (length os) r ≡ after os (stateOf (length os) p) row → Bounded r → InTurn l s ranks aim r (k + 1)
     in-turn-more {r} e b = record {
       meets = w .meets;
       within = omega (arith, w .within, left-after os p row r e);

@@ -1,6 +1,3 @@
-pub mod Stretch
-pub mod Crediting
-pub mod Turns
 pub mod Losses
 pub mod After
 pub mod Toward

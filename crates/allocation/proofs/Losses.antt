@@ -5,7 +5,6 @@ use mathlib.Core.List.{List, [], _∷_, _++_, map}
 use native.Mathlib.Omega.{arith}
 use native.Mathlib.Nat.{zero-add, add-zero, add-assoc}
 use lib.ListN.{length, take, length-map, length-take}
-use Rattle.units.specs.declared.Shares.{Shares}
 use Rattle.units.specs.Lists.{sum, total, zipWith}
 use Rattle.orders.specs.declared.order.Order.{Order}
 use Rattle.orders.specs.Order.{Visibility, shown, hidden, Interest, interest, noInterest, onlyOf, together}
@@ -32,7 +31,7 @@ added-assoc (x ∷ a) (y ∷ b) (z ∷ c) =
     (added-assoc a b c)
 
 -- losses added to none
-none-added : (os : List Order) (a : List Interest) → length a ≤ length os → addedUp (noLosses os) a ≡ a
+pub none-added : (os : List Order) (a : List Interest) → length a ≤ length os → addedUp (noLosses os) a ≡ a
 none-added [] [] h = refl
 none-added [] (x ∷ a) h = absurd (omega arith)
 none-added (o ∷ os) [] h = refl
@@ -53,9 +52,9 @@ zip-few f (x ∷ xs) [] = omega arith
 zip-few f (x ∷ xs) (y ∷ ys) = omega (arith, zip-few f xs ys)
 
 -- the losses in code are those of at most n orders
-pub losses-few : (n : ℕ) (xs ys : List Shares) → length (lossesIn n xs ys) ≤ n
+pub losses-few : (n : ℕ) (xs ys : List ℕ) → length (lossesIn n xs ys) ≤ n
 losses-few n xs ys =
-    omega (arith, zip-few (λ s h. interest (s .0) (h .0)) (take n xs) (take n ys), length-take n ys)
+    omega (arith, zip-few interest (take n xs) (take n ys), length-take n ys)
 
 -- shares of one visibility, one number for each order
 abbrev lossesBy : Visibility → List ℕ → List Interest
@@ -76,7 +75,7 @@ nothing-allotted v (o ∷ os) (n ∷ ns) h z =
 
 module _ (os : List Order) where
   -- allocations have losses of no more orders than there are
-  losses-most : (rows : List Allocation) → length (lossesOf os rows) ≤ length os
+  pub losses-most : (rows : List Allocation) → length (lossesOf os rows) ≤ length os
   unfolding lossesOf
   losses-most [] = omega (arith, length-map os (λ o. noInterest))
   losses-most (a ∷ rows) = omega (arith, zip-few together (lossesBy (a .visibility) (a .allotment)) (lossesOf os rows), losses-most rows)

@@ -13,8 +13,8 @@ use Rattle.units.specs.Lists.{sum, total}
 use Rattle.units.proofs.Tests.{false-and}
 use Rattle.units.proofs.Totals.{total-map}
 use Rattle.sharing.specs.Rank.{partSize}
-use Rattle.sharing.specs.Members.{countOf, countsOf}
-use Rattle.sharing.proofs.Arrays.{at-map, front-at}
+use Rattle.turns.specs.Members.{countOf, countsOf}
+use Rattle.turns.proofs.Arrays.{at-map, front-at}
 use Rattle.orders.specs.declared.order.Order.{Order}
 use Rattle.orders.specs.Order.{Visibility}
 use Rattle.book.specs.Sound.{ordersOf, orderAt}
@@ -27,14 +27,13 @@ use Rattle.matching.specs.Take.{Allocation, used, allocationAt, executionsBy, e
 use Rattle.matching.proofs.Entries.{Aligned}
 use Rattle.matching.proofs.Parts.{part-out, part-none, allotShare, allotted}
 use Rattle.matching.proofs.Allotting.{used-within}
-use Rattle.paragraphs.specs.declared.Level.{Level}
-use Rattle.paragraphs.specs.Standing.{isShown, groupAt, partsMet}
-use Rattle.paragraphs.specs.Meeting.{Meets}
+use Rattle.standing.specs.declared.Level.{Level}
+use Rattle.standing.specs.Standing.{isShown, groupAt, partsMet}
+use Rattle.groups.specs.Meeting.{Meets}
 use Rattle.paragraphs.proofs.Allotting.{sizes-allotted}
-use Rattle.allocation.specs.declared.Progress.{Progress}
-use Rattle.allocation.specs.Progress.{stateOf, credit, after, sharesAt, Bounded}
-use Rattle.allocation.specs.Credits.{Credits}
-use Rattle.allocation.specs.Walk.{rowAt, Roomy}
+use Rattle.ledger.specs.Progress.{State, Ledger, stateOf, credit, sharesAt, Bounded}
+use Rattle.allocation.specs.Walk.{after, rowAt, Roomy}
+use Rattle.ledger.specs.Credits.{Credits}
 use Rattle.allocation.proofs.After.{after-one}
 
 module _ {l : Level} {s ranks : List ℕ} (m : Meets l s ranks) (g : Paragraph) (left : ℕ) where
@@ -96,7 +95,7 @@ module _ {l : Level} {s ranks : List ℕ} (m : Meets l s ranks) (g : Paragraph) 
         go (yes q) = m .inside i (omega (arith, m .beside)) q
         go (no d) = absurd (omega (arith, share-at i h, row-outside i h d))
 
-    module _ {number : ℕ} (q : number ≡ paragraphNumber g) (p : Progress) where
+    module _ {number : ℕ} (q : number ≡ paragraphNumber g) (p : Ledger) where
       -- it can be credited
       pub row-credits : left ≤ p .incoming .size .0 → Bounded p → Roomy os p (rowAt l os g left) → Credits s p l number xs
       unfolding executionsOf allocationAt
@@ -104,22 +103,18 @@ module _ {l : Level} {s ranks : List ℕ} (m : Meets l s ranks) (g : Paragraph) 
           let f = sound-fits s (m .isSound) in
           let made = executionsBy (paragraphNumber g) (l .price .0) os (row .allotment) in
           record {
-            most = f .1;
-            bytes = f .0;
-            ends = omega (arith, m .ends, m .beside);
-            inside = inside;
+            allots = record { most = f .1; bytes = f .0; ends = omega (arith, m .ends, m .beside); inside = inside };
             fits = omega (arith, ap sum counts, row-within);
             bounded = b;
             room = rw (q, counts) (omega (arith, ap length (append-nil made)));
           }
 
       -- and once it is credited the order has come as far as the definition says
-      pub row-credited : {is-shown : Bool} → ((lot : ℕ) → is-shown ≡ isShown (groupOf lot (l .algorithm) g .visibility)) → (r : Progress)
-          → ((v : Visibility) → is-shown ≡ isShown v
-          → stateOf (length os) r ≡ credit os number (l .price .0) v (countsOf (length os) xs) (stateOf (length os) p))
-          → stateOf (length os) r ≡ after os (stateOf (length os) p) (rowAt l os g left)
+      pub row-credited : {is-shown : Bool} → ((lot : ℕ) → is-shown ≡ isShown (groupOf lot (l .algorithm) g .visibility)) → {t : State}
+          → ((v : Visibility) → is-shown ≡ isShown v → t ≡ credit os number (l .price .0) v (countsOf (length os) xs) (stateOf (length os) p))
+          → t ≡ after os (stateOf (length os) p) (rowAt l os g left)
       unfolding allocationAt
-      row-credited w r c =
+      row-credited w c =
           let v = groupAt l g .visibility in
           c v (w (l .lot .0))
           ∙ ap₂ (λ n ns. credit os n (l .price .0) v ns (stateOf (length os) p)) q counts

@@ -11,7 +11,7 @@ use Rattle.units.specs.declared.Shares.{Shares}
 use Rattle.units.specs.Lists.{total}
 use Rattle.units.proofs.Facts.{true-range}
 use Rattle.units.proofs.Members.{Every, every-weaken}
-use Rattle.sharing.proofs.Arrays.{at-map}
+use Rattle.turns.proofs.Arrays.{at-map}
 use Rattle.orders.specs.declared.order.Order.{Order}
 use Rattle.orders.specs.declared.order.Taker.{Taker}
 use Rattle.orders.specs.Order.{priceOf, priceInRange}
@@ -24,7 +24,7 @@ use Rattle.matching.specs.declared.Algorithm.{Algorithm}
 use Rattle.matching.specs.declared.incoming.Incoming.{Incoming}
 use Rattle.matching.specs.Levels.{priceLevels}
 use Rattle.matching.specs.Paragraph.{paragraphs}
-use Rattle.matching.specs.Take.{Allocation, used, allocationsOver, allocations}
+use Rattle.matching.specs.Take.{Allocation, used, allocationsOver, allocations, executionsOf}
 use Rattle.matching.proofs.Parts.{aligned-over}
 use Rattle.matching.proofs.Allotting.{allotment-filled}
 use Rattle.matching.proofs.Leftover.{all-within}
@@ -32,12 +32,11 @@ use Rattle.matching.proofs.Counting.{executions-most}
 use Rattle.levels.specs.declared.PriceLevel.{PriceLevel}
 use Rattle.levels.specs.Ranks.{noRank, rankOn, rankOf, nextRank, levelsAfter}
 use Rattle.levels.proofs.NextLevel.{first-levels, next-none, next-above, next-some, next-stands}
-use Rattle.paragraphs.specs.declared.Level.{Level}
-use Rattle.paragraphs.specs.Meeting.{Meets}
-use Rattle.allocation.specs.declared.Progress.{Progress}
-use Rattle.allocation.specs.Progress.{State, stateOf, begun, after, Bounded}
-use Rattle.allocation.specs.Walk.{rowsAt, Roomy}
-use Rattle.allocation.proofs.Toward.{Toward, toward-room, toward-done, toward-more}
+use Rattle.standing.specs.declared.Level.{Level}
+use Rattle.groups.specs.Meeting.{Meets}
+use Rattle.ledger.specs.Progress.{State, Ledger, stateOf, Bounded}
+use Rattle.allocation.specs.Walk.{begun, after, rowsAt, Roomy}
+use Rattle.allocation.proofs.Toward.{Toward, length-bytes, toward-room, toward-done, toward-more}
 
 -- the next level behind a rank that has been, as the code finds it
 abbrev pub NextIs : List ℕ → ℕ → PriceLevel → Type 0
@@ -63,11 +62,11 @@ abbrev over : Shares → Algorithm → Taker → List Order → List ℕ → ℕ
 over lot alg t os prices left = allocationsOver (lot .0) alg t os prices left
 
 -- what an order comes to that starts with a progress
-abbrev pub aimOf : Shares → Algorithm → Taker → List Order → Progress → State
+abbrev pub aimOf : Shares → Algorithm → Taker → List Order → Ledger → State
 aimOf lot alg t os p = after os (stateOf (length os) p) (over lot alg t os (priceLevels t os) (p .incoming .size .0))
 
 -- The ranks are those of a sound book's orders, and one of them has been: x is the next level behind it, and the levels behind it are still to come.
-pub record AtPrice (lot : Shares) (alg : Algorithm) (t : Taker) (s ranks : List ℕ) (aim : State) (p : Progress) (x : PriceLevel) : Type 0 where
+pub record AtPrice (lot : Shares) (alg : Algorithm) (t : Taker) (s ranks : List ℕ) (aim : State) (p : Ledger) (x : PriceLevel) : Type 0 where
   pub isSound : sound s ≡ true
   pub hasLot : 0 < lot .0
   pub ranked : ranks ≡ map (rankOf t) (ordersOf s)
@@ -82,7 +81,7 @@ in-range s e =
     (λ o h. let f = order-facts o h in true-range 1 2000000000 (priceOf o) (f .price-least) (f .price-most)) (ordersOf s) (orders-sound s e .each)
 
 -- An incoming order that meets a sound book, and of which nothing is executed yet.
-module _ (s : List ℕ) (e : sound s ≡ true) (lot : Shares) (alg : Algorithm) (i : Incoming) (p : Progress)
+module _ (s : List ℕ) (e : sound s ≡ true) (lot : Shares) (alg : Algorithm) (i : Incoming) (p : Ledger)
     (b : (os : List Order) → length os ≤ 256 → stateOf (length os) p ≡ begun os (i .size .0)) where
   abbrev orders : List Order
   orders = ordersOf s
@@ -114,7 +113,8 @@ module _ (s : List ℕ) (e : sound s ≡ true) (lot : Shares) (alg : Algorithm) 
             fits =
                 omega (
                   arith,
-                  ap (λ (x : State). length (x .executions)) aim-is,
+                  ap (λ (x : State). length (x .logged)) aim-is,
+                  length-bytes (executionsOf orders (allocations (lot .0) alg i orders)),
                   executions-most (lot .0) alg i orders (orders-sound s e .rise),
                   sound-fits s e .1,
                 );
@@ -122,11 +122,11 @@ module _ (s : List ℕ) (e : sound s ≡ true) (lot : Shares) (alg : Algorithm) 
         }
 
     -- and in the end it is there
-    pub at-price-end : (r : Progress) → stateOf (length orders) r ≡ aimOf lot alg (i .taker) orders p
+    pub at-price-end : (r : Ledger) → stateOf (length orders) r ≡ aimOf lot alg (i .taker) orders p
         → stateOf n r ≡ after orders (begun orders (i .size .0)) (allocations (lot .0) alg i orders)
     at-price-end r c = ap (λ m. stateOf m r) l ∙ c ∙ aim-is
 
-module _ {lot : Shares} {alg : Algorithm} {t : Taker} {s ranks : List ℕ} {aim : State} {p : Progress} {x : PriceLevel}
+module _ {lot : Shares} {alg : Algorithm} {t : Taker} {s ranks : List ℕ} {aim : State} {p : Ledger} {x : PriceLevel}
     (w : AtPrice lot alg t s ranks aim p x) where
   abbrev os : List Order
   os = ordersOf s
@@ -194,7 +194,7 @@ module _ {lot : Shares} {alg : Algorithm} {t : Taker} {s ranks : List ℕ} {aim 
     -- The level behind it.
     module _ {y : PriceLevel} (n : NextIs ranks (l .rank) y) where
       -- is the next once the order has passed this one
-      pub at-price-more : {r : Progress} → stateOf (length os) r ≡ after os (stateOf (length os) p) here → Bounded r
+      pub at-price-more : {r : Ledger} → stateOf (length os) r ≡ after os (stateOf (length os) p) here → Bounded r
           → AtPrice lot alg t s ranks aim r y
       at-price-more {r} f b = record {
         isSound = w .isSound;

@@ -1,40 +1,45 @@
--- An incoming order before its first execution: arrays that hold no shares.
-use Prim.Native.Nat.{ℕ, _≤_, _<_}
-use mathlib.Core.Path.{_≡_, refl, sym, ap, ap₂, _∙_}
-use mathlib.Core.List.{List, [], _∷_, map}
+-- An incoming order before its first execution: no order has lost anything.
+use Prim.Native.Nat.{ℕ, suc, _≤_, _<_}
+use mathlib.Core.Path.{_≡_, refl, ap, ap₂}
+use mathlib.Core.List.{List, [], _∷_}
 use native.Mathlib.Omega.{arith}
-use lib.ListN.{length, getD, take, replicate, getD-replicate}
-use Rattle.units.specs.declared.Shares.{Shares}
-use Rattle.units.specs.Lists.{zipWith}
-use Rattle.sharing.specs.Members.{countOf, countsOf}
-use Rattle.sharing.proofs.Arrays.{front-at}
+use lib.ListN.{length, getD}
 use Rattle.orders.specs.declared.order.Order.{Order}
-use Rattle.orders.specs.Order.{interest, noInterest}
+use Rattle.orders.specs.Order.{interest}
 use Rattle.orders.specs.Losses.{lossesIn}
-use Rattle.allocation.specs.Progress.{sharesAt}
+use Rattle.matching.specs.declared.incoming.Incoming.{Incoming}
+use Rattle.ledger.specs.Progress.{Ledger, stateOf, NoLosses, Bounded}
+use Rattle.allocation.specs.Walk.{begun}
 use Rattle.allocation.proofs.Losses.{noLosses}
 
--- no shares at any place of an array
-abbrev pub Nothing : List Shares → Type 0
-Nothing xs = (n : ℕ) → n ≤ 256 → countsOf n xs ≡ replicate n 0
+-- lists that have no loss for any order
+none-lost : (os : List Order) (xs ys : List ℕ) → length os ≤ length xs → length os ≤ length ys
+    → ((i : ℕ) → i < length os → getD xs i 0 ≡ 0) → ((i : ℕ) → i < length os → getD ys i 0 ≡ 0) → lossesIn (length os) xs ys ≡ noLosses os
+none-lost [] xs ys h k a b = refl
+none-lost (o ∷ os) [] ys h k a b = absurd (omega arith)
+none-lost (o ∷ os) (x ∷ xs) [] h k a b = absurd (omega arith)
+none-lost (o ∷ os) (x ∷ xs) (y ∷ ys) h k a b =
+    ap₂ _∷_ (ap₂ interest (a 0 (omega arith)) (b 0 (omega arith)))
+    (none-lost os xs ys (omega arith) (omega arith) (λ i l. a (suc i) (omega arith)) (λ i l. b (suc i) (omega arith)))
 
--- so each place has none
-pub nothing-at : (xs : List Shares) → Nothing xs → (i : ℕ) → i < 256 → sharesAt xs i ≡ 0
-nothing-at xs z i h =
-    sym (front-at countOf 256 xs i (record { 0 = 0 }) h) ∙ ap (λ ns. getD ns i 0) (z 256 (omega arith)) ∙ getD-replicate 256 i 0 0 h
+-- What is kept of an incoming order at first.
+module _ (i : Incoming) (log : List ℕ) {shown hidden : List ℕ} (a : NoLosses shown) (b : NoLosses hidden) where
+  abbrev pub first : Ledger
+  first = record { incoming = i; count = 0; log = log; shown = shown; hidden = hidden }
 
--- losses by their counts
-by-counts : (xs ys : List Shares) → zipWith (λ s h. interest (s .0) (h .0)) xs ys ≡ zipWith interest (map countOf xs) (map countOf ys)
-by-counts [] ys = refl
-by-counts (x ∷ xs) [] = refl
-by-counts (x ∷ xs) (y ∷ ys) = ap (λ ls. interest (x .0) (y .0) ∷ ls) (by-counts xs ys)
+  -- nothing is executed
+  pub started-state : (os : List Order) → length os ≤ 256 → stateOf (length os) first ≡ begun os (i .size .0)
+  started-state os h =
+      ap (λ ls. record { logged = []; losses = ls; left = i .size .0 })
+      (none-lost os shown hidden (omega (arith, a .long)) (omega (arith, b .long)) (λ k m. a .none k (omega arith)) (λ k m. b .none k (omega arith)))
 
-zero-counts : (os : List Order) → zipWith interest (replicate (length os) 0) (replicate (length os) 0) ≡ noLosses os
-zero-counts [] = refl
-zero-counts (o ∷ os) = ap (λ ls. noInterest ∷ ls) (zero-counts os)
-
--- and losses kept in two such arrays are none
-pub nothing-lost : {xs ys : List Shares} → Nothing xs → Nothing ys → (os : List Order) → length os ≤ 256
-    → lossesIn (length os) xs ys ≡ noLosses os
-nothing-lost {xs} {ys} a b os h =
-    by-counts (take (length os) xs) (take (length os) ys) ∙ ap₂ (zipWith interest) (a (length os) h) (b (length os) h) ∙ zero-counts os
+  -- and there is room for all that may be
+  pub started-bounded : length log ≡ 4096 → i .size .0 ≤ 999999 → Bounded first
+  started-bounded l m = record {
+    shown = λ k h. omega (arith, a .none k h);
+    hidden = λ k h. omega (arith, b .none k h);
+    counted = omega arith;
+    longLog = l;
+    longShown = a .long;
+    longHidden = b .long;
+  }

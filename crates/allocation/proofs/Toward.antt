@@ -1,40 +1,48 @@
 -- An incoming order on its way to a state: what it has done so far, with the allocations that are still to come, comes to that state.
-use Prim.Native.Nat.{ℕ, _+_, _-_, _≤_}
+use Prim.Native.Nat.{ℕ, _+_, _-_, _*_, _≤_}
 use mathlib.Core.Path.{_≡_, sym, ap, _∙_}
 use mathlib.Core.List.{List, _++_}
 use native.Mathlib.Omega.{arith}
 use lib.ListN.{length, take, length-append}
 use lib.Seq.{length-take-le}
 use Rattle.units.specs.Lists.{total}
+use Rattle.units.proofs.Totals.{length-flat}
 use Rattle.orders.specs.declared.order.Order.{Order}
+use Rattle.record.specs.declared.execution.Execution.{Execution}
+use Rattle.record.specs.Execution.{executionBytes, encodeExecution}
+use Rattle.record.proofs.Executions.{length-execution}
 use Rattle.matching.specs.Take.{Allocation, used, executionsOf}
 use Rattle.matching.proofs.Entries.{Aligned}
-use Rattle.allocation.specs.declared.Progress.{Progress}
-use Rattle.allocation.specs.Progress.{State, stateOf, after, Bounded}
-use Rattle.allocation.specs.Walk.{Roomy}
+use Rattle.ledger.specs.Progress.{State, Ledger, stateOf, inBytes, Bounded}
+use Rattle.allocation.specs.Walk.{after, Roomy}
 use Rattle.allocation.proofs.Losses.{losses-few}
 use Rattle.allocation.proofs.After.{executions-append, after-append, after-unused}
 
+-- 16 bytes for each execution
+pub length-bytes : (es : List Execution) → length (inBytes es) ≡ 16 * length es
+length-bytes es = length-flat encodeExecution executionBytes length-execution es
+
 -- The rows are still to come, and the log has room for all executions.
-pub record Toward (os : List Order) (aim : State) (p : Progress) (rows : List Allocation) : Type 0 where
+pub record Toward (os : List Order) (aim : State) (p : Ledger) (rows : List Allocation) : Type 0 where
   pub comes : after os (stateOf (length os) p) rows ≡ aim
   pub bounded : Bounded p
-  pub fits : length (aim .executions) ≤ 256
+  pub fits : length (aim .logged) ≤ 4096
 
 -- A progress, and rows that come next.
-module _ (os : List Order) (p : Progress) (rows : List Allocation) where
+module _ (os : List Order) (p : Ledger) (rows : List Allocation) where
   -- the executions so far, and those of the rows
-  pub executions-after : Bounded p → length (after os (stateOf (length os) p) rows .executions) ≡ p .log .count + length (executionsOf os rows)
+  pub executions-after : Bounded p → length (after os (stateOf (length os) p) rows .logged) ≡ 16 * (p .count + length (executionsOf os rows))
   unfolding after
   executions-after b =
       omega (
         arith,
-        length-append (take (p .log .count) (p .log .executions)) (executionsOf os rows),
-        length-take-le (p .log .count) (p .log .executions) (omega (arith, b .logged, b .longLog)),
+        length-append (take (16 * p .count) (p .log)) (inBytes (executionsOf os rows)),
+        length-take-le (16 * p .count) (p .log) (omega (arith, b .counted, b .longLog)),
+        length-bytes (executionsOf os rows),
       )
 
   -- the shares left behind them
-  pub left-after : (r : Progress) → stateOf (length os) r ≡ after os (stateOf (length os) p) rows
+  pub left-after : (r : Ledger) → stateOf (length os) r ≡ after os (stateOf (length os) p) rows
       → r .incoming .size .0 ≡ p .incoming .size .0 - total used rows
   unfolding after
   left-after r e = ap (λ (s : State). s .left) e
@@ -43,7 +51,7 @@ module _ (os : List Order) (p : Progress) (rows : List Allocation) where
   same-after : Aligned os rows → total used rows ≡ 0 → stateOf (length os) p ≡ after os (stateOf (length os) p) rows
   same-after a z = sym (after-unused os (stateOf (length os) p) (losses-few (length os) (p .shown) (p .hidden)) rows a z)
 
-module _ {os : List Order} {aim : State} {p : Progress} where
+module _ {os : List Order} {aim : State} {p : Ledger} where
   -- where the rows to come use up nothing the order is there
   pub toward-done : {rows : List Allocation} → Toward os aim p rows → Aligned os rows → total used rows ≡ 0 → stateOf (length os) p ≡ aim
   toward-done {rows} w a z = same-after os p rows a z ∙ w .comes
@@ -59,14 +67,14 @@ module _ {os : List Order} {aim : State} {p : Progress} where
         omega (
           arith,
           executions-after os p (rows ++ behind) (w .bounded),
-          ap (λ (s : State). length (s .executions)) (w .comes),
+          ap (λ (s : State). length (s .logged)) (w .comes),
           w .fits,
           ap length (executions-append os rows behind),
           length-append (executionsOf os rows) (executionsOf os behind),
         )
 
     -- once they have come the others are left
-    pub toward-more : (r : Progress) → stateOf (length os) r ≡ after os (stateOf (length os) p) rows → Bounded r
+    pub toward-more : (r : Ledger) → stateOf (length os) r ≡ after os (stateOf (length os) p) rows → Bounded r
         → Toward os aim r (more (r .incoming .size .0))
     toward-more r e b = record {
       comes =

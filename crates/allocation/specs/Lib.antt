@@ -1,3 +1,1 @@
-pub mod Progress
-pub mod Credits
 pub mod Walk

@@ -4,16 +4,16 @@ use mathlib.Core.Path.{_≡_, refl, sym, ap, _∙_}
 use mathlib.Core.Bool.{Bool, true}
 use mathlib.Core.List.{List, [], _∷_, map, map-map}
 use native.Mathlib.Omega.{arith}
-use lib.ListN.{length}
+use lib.ListN.{length, getD, take, replicate}
 use lib.Dec.{leb}
+use Rattle.units.specs.declared.Shares.{Shares}
 use Rattle.units.specs.Lists.{total}
 use Rattle.units.proofs.Members.{Every, every-member}
-use Rattle.sharing.specs.declared.group.Member.{Member}
 use Rattle.sharing.specs.Rank.{Part, partSize, byTime, larger, smallerMinimum, Rising}
 use Rattle.sharing.specs.Round.{round}
 use Rattle.sharing.specs.Lots.{divided, lotSharing}
 use Rattle.sharing.specs.Setter.{NoMinimum, OneSetter, setterSharing}
-use Rattle.sharing.specs.Members.{partsOf}
+use Rattle.turns.specs.Members.{partsOf, countsOf}
 use Rattle.sharing.proofs.Ranks.{Weak, by-time, by-size, by-minimum}
 use Rattle.sharing.proofs.Filled.{Filled, round-filled}
 use Rattle.orders.specs.declared.order.Order.{Order}
@@ -31,13 +31,18 @@ use Rattle.matching.specs.Take.{allocationAt}
 use Rattle.matching.proofs.Parts.{parts-rising, partsAt}
 use Rattle.matching.proofs.Groups.{one-setter, free-parts, shown-free, hidden-free}
 use Rattle.matching.proofs.Allotting.{allotment-filled}
-use Rattle.paragraphs.specs.declared.Level.{Level}
-use Rattle.paragraphs.specs.Standing.{groupAt, reachable, partsMet}
-use Rattle.paragraphs.specs.Meeting.{Meets}
+use Rattle.standing.specs.declared.Level.{Level}
+use Rattle.standing.specs.Standing.{groupAt, reachable, partsMet}
+use Rattle.groups.specs.Meeting.{Meets}
 use Rattle.paragraphs.specs.Shareable.{Shareable}
-use Rattle.paragraphs.proofs.MetParts.{met-least, records, total-fits}
+use Rattle.gathering.specs.declared.Gathered.{Gathered}
+use Rattle.gathering.specs.Gathering.{Gathers, putAt}
+use Rattle.groups.proofs.MetParts.{met-unmarked, met-least, records, total-fits, met-length}
 use Rattle.paragraphs.proofs.Reachable.{reach-rising, reach-one, reach-free, reach-round}
 use Rattle.paragraphs.proofs.Whole.{filled-whole}
+use Rattle.gathering.proofs.Keeping.{gathered-below}
+use Rattle.gathering.proofs.Spreading.{put-kept}
+use Rattle.paragraphs.proofs.Thinning.{Unmarked, kept-one, kept-free, kept-total, kept-rising, allot-kept}
 
 -- a group in which no order has a minimum
 abbrev Free : Group → Type 0
@@ -149,31 +154,53 @@ pub divided-left : (left : ℕ) (ps : List Part) → left ≤ total partSize ps 
 divided-left left ps h = omega arith
 
 -- A level that meets a book.
-module _ {l : Level} {s ranks : List ℕ} (m : Meets l s ranks) (g : Paragraph) (left : ℕ) where
+module _ {l : Level} {s ranks : List ℕ} (m : Meets l s ranks) (g : Paragraph) where
   abbrev met : List Part
   met = partsMet l g (ordersOf s)
 
-  -- its group can share fewer shares than its total
-  pub met-shareable : {group : List Member} → partsOf (length ranks) group ≡ met → left ≤ total partSize met
-      → Shareable (length ranks) group g left (l .lot .0)
-  met-shareable e h =
-      let os = ordersOf s in
-      let o = orders-sound s (m .isSound) in
-      record {
-        most = records m .few;
-        hasLot = m .hasLot;
-        fewer = rw e h;
-        fits = rw e (omega (arith, total-fits m g));
-        rise = rw e (met-rising l g os (o .rise));
-        oneSetter = rw e (met-one l g os (o .setters));
-        noMinimum = λ q. rw e (met-free l g os q);
-      }
+  unmarked : Every Unmarked met
+  unmarked = go (ordersOf s)
+    where
+      go : (os : List Order) → Every Unmarked (partsMet l g os)
+      go [] = tt
+      go (o ∷ os) = (met-unmarked l g o, go os)
 
-  module _ (h : left ≤ l .reach .0) where
-    -- the sizes are what the paragraph allots, where they fit into the shares left
-    pub sizes-allotted : {ns : List ℕ} → ns ≡ map partSize met → total partSize met ≤ left → ns ≡ allotted l g (ordersOf s) left
-    sizes-allotted e k = e ∙ met-whole l g (ordersOf s) (orders-sound s (m .isSound)) left h (m .hasLot) k
+  few : length met ≤ 256
+  few = omega (arith, met-length m g, records m .few)
 
-    -- and what the group shares is
-    pub shares-allotted : {ps : List Part} → ps ≡ met → {ns : List ℕ} → ns ≡ given l g left ps → ns ≡ allotted l g (ordersOf s) left
-    shares-allotted q e = e ∙ ap (given l g left) q ∙ met-allotted l g (ordersOf s) (orders-sound s (m .isSound)) left h
+  -- the gathered members' places lie in an allotment
+  pub met-places : {q : Gathered} → Gathers met q → (q .count ≤ 256) × ((k : ℕ) → k < q .count → getD (q .places) k 0 < 256)
+  met-places e = (omega (arith, e .few, few), gathered-below e few)
+
+  module _ (left : ℕ) where
+    -- they can share fewer shares than the group's total
+    pub met-shareable : {q : Gathered} → Gathers met q → left ≤ total partSize met → Shareable (q .count) (q .members) g left (l .lot .0)
+    met-shareable e h =
+        let os = ordersOf s in
+        let o = orders-sound s (m .isSound) in
+        let t = kept-total met unmarked in
+        record {
+          most = omega (arith, e .few, few);
+          hasLot = m .hasLot;
+          fewer = rw (e .parts) (omega arith);
+          fits = rw (e .parts) (omega (arith, total-fits m g));
+          rise = rw (e .parts) (kept-rising met unmarked (met-rising l g os (o .rise)));
+          oneSetter = rw (e .parts) (kept-one met (met-one l g os (o .setters)));
+          noMinimum = λ z. rw (e .parts) (kept-free met (met-free l g os z));
+        }
+
+    module _ (h : left ≤ l .reach .0) where
+      -- the sizes are what the paragraph allots, where they fit into the shares left
+      pub sizes-allotted : {ns : List ℕ} → ns ≡ map partSize met → total partSize met ≤ left → ns ≡ allotted l g (ordersOf s) left
+      sizes-allotted e k = e ∙ met-whole l g (ordersOf s) (orders-sound s (m .isSound)) left h (m .hasLot) k
+
+      -- and so is what the gathered members share, at their places
+      pub shares-allotted : {q : Gathered} → Gathers met q → {ns : List ℕ} → ns ≡ given l g left (partsOf (q .count) (q .members)) → {xs : List Shares}
+          → ((n : ℕ) → n ≤ 256 → countsOf n xs ≡ putAt (take (q .count) (q .places)) ns (replicate n 0))
+          → countsOf (length ranks) xs ≡ allotted l g (ordersOf s) left
+      shares-allotted e z put =
+          let o = orders-sound s (m .isSound) in
+          let same = allot-kept met unmarked (met-rising l g (ordersOf s) (o .rise)) (l .lot .0) (l .algorithm) g left in
+          put (length ranks) (records m .few)
+          ∙ rw (e .places, z, e .parts, same .kept, ← met-length m g) (put-kept (same .share) met (same .zero))
+          ∙ sym (same .whole) ∙ met-allotted l g (ordersOf s) o left h

@@ -14,7 +14,7 @@ use Rattle.sharing.specs.Round.{taking, goesRound, round}
 use Rattle.sharing.specs.Setter.{OneSetter}
 use Rattle.sharing.proofs.Ranks.{Weak, rising-map}
 use Rattle.sharing.proofs.Thin.{Thin, thin-filter, ranked-thin, round-thin, goes-thin}
-use Rattle.paragraphs.specs.Standing.{reachable}
+use Rattle.standing.specs.Standing.{reachable}
 
 module _ (reach : ℕ) where
   -- the part can be met

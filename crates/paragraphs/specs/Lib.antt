@@ -1,3 +1,1 @@
-pub mod Standing
-pub mod Meeting
 pub mod Shareable

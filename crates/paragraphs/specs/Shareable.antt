@@ -3,10 +3,10 @@ use Prim.Native.Nat.{ℕ, _^_, _≤_, _<_}
 use mathlib.Core.Path.{_≡_}
 use mathlib.Core.List.{List}
 use Rattle.units.specs.Lists.{total}
-use Rattle.sharing.specs.declared.group.Member.{Member}
+use Rattle.turns.specs.declared.Member.{Member}
 use Rattle.sharing.specs.Rank.{partSize, Rising}
 use Rattle.sharing.specs.Setter.{NoMinimum, OneSetter}
-use Rattle.sharing.specs.Members.{partsOf}
+use Rattle.turns.specs.Members.{partsOf}
 use Rattle.matching.specs.declared.Paragraph.{Paragraph}
 use Rattle.matching.specs.declared.Paragraph.the-variants.{Two}
 

@@ -1,11 +1,11 @@
 -- Bytes put in the place of others one by one: after i of them, a list x is what paste says, and after the last it is what replaced says.
 use Prim.Native.Nat.{ℕ, _+_, _-_, _≤_, _<_}
-use mathlib.Core.Path.{_≡_, sym, ap, _∙_}
-use mathlib.Core.List.{List, append-assoc}
+use mathlib.Core.Path.{_≡_, sym, ap, ap₂, _∙_}
+use mathlib.Core.List.{List, _++_, append-assoc}
 use native.Mathlib.Omega.{arith}
 use native.Mathlib.Numerals.{add-one}
-use lib.ListN.{length, getD, take, drop, set, length-drop}
-use lib.Seq.{paste, paste-suc, length-paste, drop-paste, take-length, getD-drop}
+use lib.ListN.{length, getD, take, drop, set, length-append, length-drop}
+use lib.Seq.{paste, paste-suc, length-paste, drop-paste, take-length, take-append-seam, length-take-le, getD-drop}
 use Rattle.record.specs.Codec.{replaced}
 
 module _ (d s : List ℕ) (at : ℕ) (h : at + length s ≤ length d) (x : List ℕ) (i : ℕ) (e : x ≡ paste d at s i) where
@@ -56,3 +56,26 @@ module _ (d : List ℕ) (at k : ℕ) (h : at + k ≤ length d)
   -- every byte has moved
   pub move-done : length d - k - at ≤ i → x ≡ replaced at (drop (at + k) d) d
   move-done m = paste-done d (drop (at + k) d) at fits x i e within (omega (arith, count))
+
+-- Bytes put in the place of others, all within a buffer.
+module _ (at : ℕ) (new b : List ℕ) (h : at + length new ≤ length b) where
+  abbrev behind : List ℕ
+  behind = drop (at + length new) b
+
+  -- they stand behind those before them
+  pub take-replaced : take (at + length new) (replaced at new b) ≡ take at b ++ new
+  take-replaced =
+      let front = take at b in
+      let n : at + length new ≡ length (front ++ new) = omega (arith, length-append front new, length-take-le at b (omega arith)) in
+      ap₂ take n (sym (append-assoc front new behind)) ∙ take-append-seam (front ++ new) behind
+
+  -- the buffer stays as long as it was
+  pub length-replaced : length (replaced at new b) ≡ length b
+  length-replaced =
+      omega (
+        arith,
+        length-append (take at b) (new ++ behind),
+        length-append new behind,
+        length-take-le at b (omega arith),
+        length-drop (at + length new) b,
+      )

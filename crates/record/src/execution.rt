@@ -5,6 +5,9 @@ use units::Shares;
 ghost use mathlib.Core.Path.{_≡_};
 ghost use Rattle.record.specs.Execution.{encodeExecution};
 
+// How many bytes an execution has.
+pub const EXECUTION_BYTES: usize = 16;
+
 // The resting order's number, its price, the shares executed, and the paragraph of the rule that gave them.
 pub struct Execution {
     pub number: u32,

@@ -4,7 +4,7 @@ use book::records::RECORD_BYTES;
 use libc::STDOUT_FILENO;
 use matching::Taken;
 use record::bytes;
-use settlement::EXECUTION_BYTES;
+use record::execution::EXECUTION_BYTES;
 ghost use Prim.Native.Nat.{_+_, _≤_};
 ghost use lib.ListN.{length};
 

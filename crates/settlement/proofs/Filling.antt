@@ -3,9 +3,10 @@ use Prim.Native.Nat.{ℕ, _+_, _-_, _≤_}
 use mathlib.Core.Path.{_≡_, refl, sym, ap, ap₂, _∙_}
 use mathlib.Core.List.{List, [], _++_, append-assoc}
 use native.Mathlib.Omega.{arith}
-use lib.ListN.{length, take, drop, length-append, length-drop, take-append-drop}
-use lib.Seq.{take-append-seam, drop-append-add, drop-drop}
+use lib.ListN.{length, take, drop, length-append, take-append-drop}
+use lib.Seq.{drop-append-add, drop-drop}
 use Rattle.record.specs.Codec.{replaced}
+use Rattle.record.proofs.Pasting.{take-replaced, length-replaced}
 
 -- Buffer b was s: it begins with these bytes, and is the same from a byte on.
 pub record Filled (front : List ℕ) (from : ℕ) (s b : List ℕ) : Type 0 where
@@ -44,12 +45,6 @@ module _ {front : List ℕ} {from : ℕ} {s b : List ℕ} (f : Filled front from
     count : length (front ++ new) ≡ length front + length new
     count = length-append front new
 
-    more-long : length (replaced (length front) new b) ≡ length s
-    more-long =
-        ap length parts
-        ∙ length-append (front ++ new) rest
-        ∙ omega (arith, count, length-drop (length front + length new) b, f .long)
-
     more-same : drop k (replaced (length front) new b) ≡ drop k s
     more-same =
         let j = k - (length front + length new) in
@@ -63,8 +58,8 @@ module _ {front : List ℕ} {from : ℕ} {s b : List ℕ} (f : Filled front from
 
     pub filled-more : {at : ℕ} → at ≡ length front → Filled (front ++ new) k s (replaced at new b)
     filled-more e = rw e record {
-      long = more-long;
-      begins = ap (take (length (front ++ new))) parts ∙ take-append-seam (front ++ new) rest;
+      long = length-replaced (length front) new b (omega (arith, f .long)) ∙ f .long;
+      begins = ap (λ n. take n (replaced (length front) new b)) count ∙ take-replaced (length front) new b (omega (arith, f .long)) ∙ ap (λ t. t ++ new) (f .begins);
       same = more-same;
     }
 

@@ -1,16 +1,15 @@
 -- The orders of a book lose their shares in one pass: what holds when the first i have lost theirs, and one turn.
 use Prim.Native.Nat.{ℕ, zero, suc, _+_, _-_, _*_, _≤_, _<_}
 use mathlib.Core.Path.{_≡_, refl, sym, ap, _∙_}
-use mathlib.Core.Bool.{Bool, true, false}
+use mathlib.Core.Bool.{true}
 use mathlib.Core.List.{List, [], _∷_, _++_, append-nil, append-assoc}
 use native.Mathlib.Omega.{arith}
 use native.Mathlib.Numerals.{add-one}
 use lib.ListN.{length, getD, take, drop, replicate, length-append, length-replicate, replicate-append-replicate}
 use lib.Seq.{take-all, drop-at}
 use borrow.Author.Tests.{lt-ltb, le-ltb}
-use Rattle.units.specs.declared.Shares.{Shares}
 use Rattle.units.specs.Lists.{filter, consIf, flatMap, zipWith}
-use Rattle.units.proofs.Totals.{flat-last}
+use Rattle.units.proofs.Totals.{flat-last, cons-append}
 use Rattle.orders.specs.declared.order.Order.{Order}
 use Rattle.orders.specs.Order.{sizeOf, interest, interestOf, allShares, settled, isResting}
 use Rattle.orders.specs.Losses.{lossesIn}
@@ -28,41 +27,36 @@ use Rattle.book.proofs.Access.{order-get}
 use Rattle.settlement.proofs.Filling.{Filled, filled-none, filled-same, filled-more, filled-done}
 
 -- of the first i orders, those that still rest
-abbrev restingTo : List Shares → List Shares → List Order → ℕ → List Order
+abbrev restingTo : List ℕ → List ℕ → List Order → ℕ → List Order
 restingTo shown hidden os i = filter isResting (zipWith settled (lossesIn i shown hidden) (take i os))
 
--- an order left in or out of a list in front of others
-if-append : (b : Bool) (o : Order) (os ps : List Order) → consIf b o (os ++ ps) ≡ consIf b o os ++ ps
-if-append true o os ps = refl
-if-append false o os ps = refl
-
 -- one order more rests or not
-resting-suc : (i : ℕ) (shown hidden : List Shares) (os : List Order) (d e : Shares) (z : Order)
+resting-suc : (i : ℕ) (shown hidden : List ℕ) (os : List Order) (d e : ℕ) (z : Order)
     → i < length shown → i < length hidden → i < length os
-    → let o = settled (interest (getD shown i d .0) (getD hidden i e .0)) (getD os i z) in
+    → let o = settled (interest (getD shown i d) (getD hidden i e)) (getD os i z) in
     restingTo shown hidden os (suc i) ≡ restingTo shown hidden os i ++ consIf (isResting o) o []
 resting-suc i [] hidden os d e z h k l = absurd (omega arith)
 resting-suc i (s ∷ shown) [] os d e z h k l = absurd (omega arith)
 resting-suc i (s ∷ shown) (t ∷ hidden) [] d e z h k l = absurd (omega arith)
 resting-suc zero (s ∷ shown) (t ∷ hidden) (o ∷ os) d e z h k l = refl
 resting-suc (suc i) (s ∷ shown) (t ∷ hidden) (o ∷ os) d e z h k l =
-    let p = settled (interest (s .0) (t .0)) o in
-    let q = settled (interest (getD shown i d .0) (getD hidden i e .0)) (getD os i z) in
+    let p = settled (interest s t) o in
+    let q = settled (interest (getD shown i d) (getD hidden i e)) (getD os i z) in
     ap (consIf (isResting p) p) (resting-suc i shown hidden os d e z (omega arith) (omega arith) (omega arith))
-    ∙ if-append (isResting p) p (restingTo shown hidden os i) (consIf (isResting q) q [])
+    ∙ cons-append (isResting p) p (restingTo shown hidden os i) (consIf (isResting q) q [])
 
 -- zeros and zeros behind them
 zeros-both : (j k n : ℕ) → j + k ≡ n → zeros j ++ zeros k ≡ zeros n
 zeros-both j k n e = replicate-append-replicate j k 0 ∙ ap zeros e
 
 -- Book s, and what its orders lose.
-module _ (s : List ℕ) (shown hidden : List Shares) where
+module _ (s shown hidden : List ℕ) where
   -- its orders lie in its bytes, and there is a loss for each
   pub record Begun : Type 0 where
     pub room : 32 * length (ordersOf s) ≤ length s
     pub most : length (ordersOf s) ≤ 256
-    pub shown-each : length shown ≡ 256
-    pub hidden-each : length hidden ≡ 256
+    pub shown-each : length (ordersOf s) ≤ length shown
+    pub hidden-each : length (ordersOf s) ≤ length hidden
 
   -- of its first i orders, those that still rest
   abbrev rests : ℕ → List Order
@@ -77,7 +71,8 @@ module _ (s : List ℕ) (shown hidden : List Shares) where
     pub bytes : Filled (flatMap (encodeOrder form) (rests i)) (32 * i) s b
 
 -- before the first order nothing has changed
-pub passed-none : {s : List ℕ} {shown hidden : List Shares} → sound s ≡ true → length shown ≡ 256 → length hidden ≡ 256 → Passed s shown hidden s 0 0
+pub passed-none : {s shown hidden : List ℕ} → sound s ≡ true → length (ordersOf s) ≤ length shown → length (ordersOf s) ≤ length hidden
+    → Passed s shown hidden s 0 0
 passed-none {s} a h k =
     let f = sound-fits s a in
     record {
@@ -88,15 +83,15 @@ passed-none {s} a h k =
       bytes = filled-none s;
     }
 
-module _ {s : List ℕ} {shown hidden : List Shares} {b : List ℕ} {i kept : ℕ} (p : Passed s shown hidden b i kept) where
+module _ {s shown hidden b : List ℕ} {i kept : ℕ} (p : Passed s shown hidden b i kept) where
   -- the records of the orders that still rest
   front-long : 32 * kept ≡ length (flatMap (encodeOrder form) (rests s shown hidden i))
   front-long = ap (λ n. 32 * n) (p .count) ∙ sym (length-orders (rests s shown hidden i))
 
   -- The next order, as it is read, and what the loss leaves of it.
-  module _ (h : i < length (ordersOf s)) (d e : Shares)
+  module _ (h : i < length (ordersOf s)) (d e : ℕ)
       {o left : Order} (q : o ≡ decodeOrder form (take 32 (drop (32 * i) b)))
-      (r : left ≡ settled (interest (getD shown i d .0) (getD hidden i e .0)) o) {size : ℕ} (m : size ≡ allShares (interestOf left)) where
+      (r : left ≡ settled (interest (getD shown i d) (getD hidden i e)) o) {size : ℕ} (m : size ≡ allShares (interestOf left)) where
     -- it is the order of the book
     here : getD (ordersOf s) i o ≡ o
     here = order-get s i o h ∙ sym (q ∙ ap (λ t. decodeOrder form (take 32 t)) (p .bytes .same))

@@ -7,12 +7,3 @@ pub mod SetterSharing
 pub mod Closed
 pub mod Thin
 pub mod Zeros
-pub mod Arrays
-pub mod Fronts
-pub mod Places
-pub mod Inserting
-pub mod Keying
-pub mod KeyOrder
-pub mod Going
-pub mod LotArrays
-pub mod SetterArrays

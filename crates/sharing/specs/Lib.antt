@@ -2,6 +2,4 @@ pub mod Rank
 pub mod Round
 pub mod Lots
 pub mod Setter
-pub mod Members
-pub mod Keys
 pub mod Examples

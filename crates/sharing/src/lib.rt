@@ -1,5 +1,2 @@
-// How one group of orders divides shares. Knows nothing of orders or bytes.
-pub mod group;
-pub mod lots;
-pub mod rounds;
-pub mod setter;
+// How one group of orders divides shares: definitions and laws, for any lot. Knows nothing of orders or bytes. The code is in the crates
+// turns, rounds, lots and setter.

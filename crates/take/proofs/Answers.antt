@@ -56,9 +56,10 @@ module _ (q : TakeRequest) (s x : List ℕ) where
       refused-room h = refused 8 (λ z. absurd (omega arith)) (rw (e, f, lt-ltb (length x) (16 * length (out .executions)) h))
 
       -- an accepted take
-      pub accepted : 16 * length (out .executions) ≤ length x
-          → Answers (record { refusal = 0; count = length (out .executions); left = out .left }) (bookOf (capacityOf s) (out .orders)) (written (out .executions) x)
+      pub accepted : {count left : ℕ} {b y : List ℕ} → count ≡ length (out .executions) → left ≡ out .left
+          → b ≡ bookOf (capacityOf s) (out .orders) → y ≡ written (out .executions) x → 16 * count ≤ length x
+          → Answers (record { refusal = 0; count = count; left = left }) b y
       unfolding takeCall
-      accepted h =
-          let n = le-ltb (length x) (16 * length (out .executions)) h in
-          answers _ _ _ (rw (e, f, n)) (rw (e, f, n)) (rw (e, f, n))
+      accepted c l i j h =
+          let n = le-ltb (length x) (16 * length (out .executions)) (omega arith) in
+          answers _ _ _ (rw (e, f, n, c, l)) (rw (e, f, n) i) (rw (e, f, n) j)

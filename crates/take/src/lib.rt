@@ -7,7 +7,8 @@ use matching::incoming::Incoming;
 use orders::order::Side;
 use orders::order::Taker;
 use orders::range;
-use settlement::EXECUTION_BYTES;
+use record::bytes;
+use record::execution::EXECUTION_BYTES;
 use units::Price;
 use units::Shares;
 ghost use mathlib.Core.Path.{_≡_};
@@ -15,6 +16,7 @@ ghost use mathlib.Core.Bool.{true};
 ghost use Rattle.book.specs.Sound.{sound};
 ghost use Rattle.matching.specs.TakeCall.{requestInRange, incomingOf, takeCall};
 ghost use Rattle.matching.specs.Fairness.{FairTake};
+ghost use Rattle.ledger.specs.Progress.{NoLosses};
 
 // Whether the numbers are in their ranges.
 fn in_range(q: TakeRequest) -> bool
@@ -51,6 +53,18 @@ fn refused(refusal: u32) -> Taken
     }
 }
 
+// A log without executions.
+fn no_executions() -> [u8; 4096] {
+    [0; 4096]
+}
+
+// Nothing is lost by any order.
+fn no_losses() -> [u32; 256]
+    ensures { λ r. ⌜ NoLosses r ⌝ }
+{
+    [0; 256]
+}
+
 // An incoming order takes shares from the orders of the book. Its executions go into the second buffer, from its start. The numbers may
 // have any value.
 pub fn take(
@@ -82,25 +96,27 @@ pub fn take(
         return refused(refusal);
     }
     let n = checked.orders as usize;
+    let mut log = no_executions();
+    let mut shown = no_losses();
+    let mut hidden = no_losses();
     let progress = walk::allocate(
         book,
         n,
+        &mut log,
+        &mut shown,
+        &mut hidden,
         incoming_of(request),
         Algorithm::of(algorithm),
         units::round_lot(),
     );
-    let log = progress.log;
-    let count = log.count;
+    let count = progress.count;
     if executions.len() / EXECUTION_BYTES < count {
         return refused(8);
     }
     let incoming = progress.incoming;
     let left = incoming.size;
-    let list = log.executions;
-    let shown = progress.shown;
-    let hidden = progress.hidden;
-    settlement::write_executions(executions, list, count);
-    settlement::settle(book, n, shown, hidden);
+    bytes::put(executions, 0, &log[..EXECUTION_BYTES * count]);
+    settlement::settle(book, n, &shown, &hidden);
     Taken {
         refusal: 0,
         count: count as u32,

@@ -9,14 +9,16 @@ use units::Shares;
 ghost use Prim.Native.Nat.{_≤_, _<_};
 ghost use lib.ListN.{length};
 
-// Displayed sells at one price or at 256; minimum quantity sells at one price or at 256; and at each of 128 prices one small
-// minimum quantity order and one whose minimum is met only until the small one has its share.
+// Displayed sells at one price or at 256; minimum quantity sells at one price or at 256; at each of 128 prices one small
+// minimum quantity order and one whose minimum is met only until the small one has its share; and at each of 51 prices a sell in
+// every paragraph.
 enum Shape {
     OnePrice,
     Prices,
     OnePriceMinimums,
     Minimums,
     Pairs,
+    Paragraphs,
 }
 
 fn order(i: u32, kind: Kind, price: u32, size: u32) -> Order
@@ -46,6 +48,25 @@ fn paired(i: u32) -> Order
     )
 }
 
+fn of_paragraph(i: u32) -> Order
+    requires { ⌜ i < 256 ⌝ }
+{
+    let price = 50_000 + i % 51;
+    if i < 51 {
+        return order(i, Kind::Displayed, price, 1_000);
+    }
+    if i < 102 {
+        return order(i, Kind::Displayed, price, 50);
+    }
+    if i < 153 {
+        return order(i, Kind::NonDisplayed, price, 1_000);
+    }
+    if i < 204 {
+        return order(i, Kind::MinimumQuantity(Shares(100)), price, 500);
+    }
+    order(i, Kind::NonDisplayed, price, 50)
+}
+
 fn order_of(shape: Shape, i: u32) -> Order
     requires { ⌜ i < 256 ⌝ }
 {
@@ -65,6 +86,7 @@ fn order_of(shape: Shape, i: u32) -> Order
             2_000 + i,
         ),
         Shape::Pairs => paired(i),
+        Shape::Paragraphs => of_paragraph(i),
     }
 }
 
@@ -133,4 +155,6 @@ fn main() {
     minimums();
     many(Shape::Pairs, 900_000, 1);
     many(Shape::Pairs, 900_000, 2);
+    many(Shape::Paragraphs, 999_999, 1);
+    many(Shape::Paragraphs, 999_999, 2);
 }

@@ -1,11 +1,12 @@
 -- Laws of totals, and of lists made number by number.
 use Prim.Native.Nat.{ℕ, _+_, _*_, _≤_}
 use mathlib.Core.Path.{_≡_, refl, sym, ap, _∙_, subst⁻¹}
+use mathlib.Core.Bool.{Bool, true, false}
 use mathlib.Core.List.{List, [], _∷_, _++_, map, append-nil, append-assoc, List·Memᴰ, List·Memᴰ·head, List·Memᴰ·tail, List·Memᴰ·not-nil}
 use native.Mathlib.Omega.{arith}
 use native.Mathlib.Nat.{zero-add, add-comm, zero-mul, mul-zero, mul-suc, add-mul}
 use lib.ListN.{length, length-append}
-use Rattle.units.specs.Lists.{total, flatMap, zipWith}
+use Rattle.units.specs.Lists.{total, flatMap, zipWith, consIf}
 
 module _ {A : Type 0} where
   pub total-append : (f : A → ℕ) (xs ys : List A) → total f (xs ++ ys) ≡ total f xs + total f ys
@@ -79,6 +80,11 @@ module _ {A B : Type 0} where
   pub total-map : (f : B → ℕ) (g : A → B) (xs : List A) → total f (map g xs) ≡ total (λ x. f (g x)) xs
   total-map f g [] = refl
   total-map f g (x ∷ xs) = ap (λ n. f (g x) + n) (total-map f g xs)
+
+-- an element that may come in front of two lists comes in front of the first
+pub cons-append : {A : Type 0} (b : Bool) (x : A) (xs ys : List A) → consIf b x (xs ++ ys) ≡ consIf b x xs ++ ys
+cons-append true x xs ys = refl
+cons-append false x xs ys = refl
 
 module _ {A B C : Type 0} where
   pub zip-map : (f : B → C → ℕ) (g : A → B) (h : A → C) (xs : List A) → zipWith f (map g xs) (map h xs) ≡ map (λ x. f (g x) (h x)) xs

@@ -18,7 +18,7 @@ abbrev μ-loop : tie.MeasureT-loop
 μ-loop book₀ n shown hidden i₀ kept₀ book i kept = n - i
 
 loop-holds : tie.Need-loop-holds Inv-loop μ-loop
-loop-holds c = passed-none (c .before .pre .0) (search needs) (search needs)
+loop-holds c = let p = c .before .before .before .pre in passed-none (p .0) (omega (arith, p .1, p .2)) (omega (arith, p .1, p .3))
 
 loop-again : tie.Need-loop-again Inv-loop μ-loop
 loop-again c =
@@ -26,7 +26,7 @@ loop-again c =
     let r = k .before in
     let q = r .before .before .before in
     let l = q .before .before .before in
-    let a = l .before .before .args in
+    let a = l .before .before .before .before .args in
     let h : l .loop .i < length (ordersOf (a .book .now)) = search needs in
     ⊎-elim
     (λ w. rw (w .5, w .6, w .2 .ensures)
@@ -39,7 +39,7 @@ returns : tie.Need-returns Inv-loop μ-loop
 returns c =
     let r = c .before .before in
     let l = r .before .before .before in
-    let e = l .before in
+    let e = l .before .before .before in
     let a = e .before .args in
     let z = are-bytes (a .book .now) (λ k. omega (arith, e .slice-known .given k)) in
     r .clear .ensures ∙ passed-done (l .loop .inv) (e .before .pre .0) z (a .n) (search needs) (e .before .pre .1)

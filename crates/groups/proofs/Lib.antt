@@ -1,0 +1,4 @@
+pub mod Replacing
+pub mod MetParts
+pub mod Sizing
+pub mod Counting

@@ -1,0 +1,26 @@
+-- `standing::holds_pro_rata` meets its contract.
+use borrow.Author.Needs.{needs}
+use Rattle.standing.proofs.holds_pro_rata.Statement.{statement}
+use Rattle.standing.proofs.holds_pro_rata.Tie as tie
+
+returns : tie.Need-returns
+returns c = rw (c .enum-told .given .1)
+
+returns-2 : tie.Need-returns-2
+returns-2 c = rw (c .enum-told2 .given .1)
+
+returns-3 : tie.Need-returns-3
+returns-3 c = rw (c .enum-told3 .given .1)
+
+returns-4 : tie.Need-returns-4
+returns-4 c = rw (c .enum-told4 .given .1)
+
+returns-5 : tie.Need-returns-5
+returns-5 c = rw (c .enum-told5 .given .1)
+
+pub holds-pro-rata-spec : {M : Type 1} → statement M
+holds-pro-rata-spec =
+    tie.close
+    (tie.spec
+    (λ c. search needs) (λ c. search needs) (λ c. search needs) (λ c. search needs) (λ c. search needs) returns returns-2 returns-3 returns-4
+    returns-5)

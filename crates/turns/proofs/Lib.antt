@@ -1,0 +1,6 @@
+pub mod Arrays
+pub mod Fronts
+pub mod Places
+pub mod Inserting
+pub mod Keying
+pub mod KeyOrder
