@@ -1,7 +1,7 @@
 -- What of an order stands in a group, by what the code asks: the visibility, and whether any shares stand there.
 use Prim.Native.Nat.{ℕ, _≤_, _<_}
-use mathlib.Core.Path.{_≡_, refl}
-use mathlib.Core.Bool.{Bool, true, false, cond}
+use mathlib.Core.Path.{_≡_, refl, _∙_}
+use mathlib.Core.Bool.{Bool, true, false, cond, _&&_}
 use lib.Dec.{leb, ltb}
 use native.Mathlib.Omega.{arith}
 use borrow.Author.Tests.{ltb-true}
@@ -98,15 +98,25 @@ module _ (l : Level) (g : Paragraph) (o : Order) where
       go true e z = absurd (omega (arith, takes-shares e))
       go false e z = rw e
 
-  -- else it stands there with them
-  pub member-some : (standing l g o ≡ 0 → ⊥)
-      → record { number = o .number; size = standing l g o; minimum = minimumOf (o .kind); setter = o .setter } ≡ memberOf l g o
-  member-some z = go (takesPart l g o) refl z
+  -- else it stands there with them, and with its minimum
+  pub member-some : {n m : ℕ} → n ≡ standing l g o → m ≡ minimumOf (o .kind) → (n ≡ 0 → ⊥)
+      → record { number = o .number; size = n; minimum = m; setter = o .setter } ≡ memberOf l g o
+  member-some a b z = rw (a, b) (go (takesPart l g o) refl (λ y. z (a ∙ y)))
     where
       go : (b : Bool) → takesPart l g o ≡ b → (orZero b shares ≡ 0 → ⊥)
           → record { number = o .number; size = standing l g o; minimum = minimumOf (o .kind); setter = o .setter } ≡ memberOf l g o
       go true e z = rw e
       go false e z = absurd (z refl)
+
+  -- What the code asks: the shares, whether they pass the group's test, and the minimum.
+  module _ {n m : ℕ} {q h : Bool} (a : n ≡ shares) (b : m ≡ minimumOf (o .kind)) (c : q ≡ isMinimumQuantity (o .kind)) (d : h ≡ groupAt l g .holds q n) where
+    -- where all is so they stand in the group
+    pub standing-some : (ltb 0 n && h && leb m (l .reach .0)) ≡ true → n ≡ standing l g o
+    standing-some e = rw (← a, ← b, ← c, ← d, e)
+
+    -- else nothing does
+    pub standing-none : (ltb 0 n && h && leb m (l .reach .0)) ≡ false → 0 ≡ standing l g o
+    standing-none e = rw (← a, ← b, ← c, ← d, e)
 
   -- its minimum is within the shares that it has there
   pub member-least : minimumOf (o .kind) ≤ sizeOf o → memberOf l g o .minimum ≤ memberOf l g o .size

@@ -45,9 +45,9 @@ module _ (q : TakeRequest) (s x : List ℕ) where
 
   module _ (e : requestInRange q ≡ true) where
     -- refusal 2, an unsound book
-    pub refused-book : sound s ≡ false → Answers (record { refusal = 2; count = 0; left = 0 }) s x
+    pub refused-book : {r : ℕ} → r ≡ 2 → sound s ≡ false → Answers (record { refusal = r; count = 0; left = 0 }) s x
     unfolding takeCall
-    refused-book f = refused 2 (λ z. absurd (omega arith)) (rw (e, f))
+    refused-book d f = rw d (refused 2 (λ z. absurd (omega arith)) (rw (e, f)))
 
     module _ (f : sound s ≡ true) where
       -- refusal 8, too little room for the executions

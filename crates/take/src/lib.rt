@@ -1,4 +1,4 @@
-// The call take. It decides by value, from bytes that it only reads, and then writes what was decided.
+// The call take. It decides first, from a book that it only reads and into memory of its own, and then writes what was decided.
 use allocation::walk;
 use matching::Algorithm;
 use matching::TakeRequest;

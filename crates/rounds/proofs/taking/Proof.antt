@@ -5,10 +5,10 @@ use Rattle.rounds.proofs.taking.Statement.{statement}
 use Rattle.rounds.proofs.taking.Tie as tie
 
 returns : tie.Need-returns
-returns c = rw (le-leb _ _ (c .before .if1 .taken)) (c .least .ensures)
+returns c = let a = c .before .before .before .before .args in rw (le-leb (a .minimum .0) (a .left .0) (c .before .if1 .taken)) (c .least .ensures)
 
 returns-2 : tie.Need-returns-2
-returns-2 c = rw (lt-leb _ _ (c .if1 .left))
+returns-2 c = let a = c .before .before .before .args in rw (lt-leb (a .minimum .0) (a .left .0) (c .if1 .left))
 
 pub taking-spec : {M : Type 1} → statement M
 taking-spec = tie.close (tie.spec (λ c κs. search needs) returns returns-2)

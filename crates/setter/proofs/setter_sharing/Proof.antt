@@ -1,10 +1,12 @@
 -- `setter::setter_sharing` meets its contract, branch by branch.
 use mathlib.Core.Path.{_≡_, _∙_}
+use mathlib.Core.List.{List, map}
 use native.Mathlib.Omega.{arith}
 use borrow.Author.Needs.{needs}
 use lib.ListN.{length}
 use Rattle.units.proofs.Members.{member-every}
-use Rattle.sharing.specs.Setter.{guarantee}
+use Rattle.sharing.specs.Rank.{Part}
+use Rattle.sharing.specs.Setter.{guarantee, ofSetter}
 use Rattle.turns.specs.Members.{asPart, partsOf, setterPlace}
 use Rattle.sharing.proofs.SetterSharing.{room}
 use Rattle.turns.proofs.Arrays.{front-length}
@@ -20,52 +22,56 @@ returns c =
     let e : setterPlace ps ≡ length ps = omega (arith, c .before .setter-place .ensures .1, front-length asPart (a .n) (a .t1) (omega arith)) in
     rw (sharing-alone (a .lot .0) (a .q .0) ps e) (t .lot-sharing .ensures)
 
+-- One of the members is the setter, and its guarantee is known.
+module _ (g : tie.After-guarantee) where
+  -- where its place was found
+  abbrev t : tie.After-setter-place
+  t = g .before .before .before
+
+  abbrev k : tie.Start
+  k = t .before .before
+
+  abbrev group : List Part
+  group = partsOf (k .args .n) (k .args .t1)
+
+  stands : Stands (k .args .n) (k .args .t1) (t .setter-place .result)
+  stands = record { room = omega arith; rising = k .pre .4; one = k .pre .6; place = t .setter-place .ensures .1; within = omega arith }
+
+  guaranteed : g .guarantee .result .0 ≡ ofSetter group (map (guarantee (k .args .q .0)) group)
+  guaranteed = g .guarantee .ensures ∙ number-at stands (guarantee (k .args .q .0)) _
+
 returns-2 : tie.Need-returns-2
 returns-2 c =
     let g = c .before .before .before .before in
-    let t = g .before .before .before in
-    let k = t .before .before in
-    let a = k .args in
-    let ps = partsOf (a .n) (a .t1) in
-    let s : Stands (a .n) (a .t1) (t .setter-place .result) =
-    record { room = omega arith; rising = k .pre .4; one = k .pre .6; place = t .setter-place .ensures .1; within = omega arith } in
-    let e = g .guarantee .ensures ∙ number-at s (guarantee (a .q .0)) _ in
-    rw (sharing-plain (a .lot .0) (a .q .0) ps (not-kept s (a .lot .0) (a .q .0) _ (t .before .lot-sharing .ensures) e (c .if2 .taken)))
-    (t .before .lot-sharing .ensures)
+    let a = k g .args in
+    let plain = t g .before .lot-sharing .ensures in
+    rw (sharing-plain (a .lot .0) (a .q .0) (group g) (not-kept (stands g) (a .lot .0) (a .q .0) _ plain (guaranteed g) (c .if2 .taken))) plain
 
 beside-setter-requires : tie.Need-beside-setter-requires
 beside-setter-requires c κs =
     let g = c .before .before .before .before in
-    let t = g .before .before .before in
-    let k = t .before .before in
-    let a = k .args in
-    let ps = partsOf (a .n) (a .t1) in
-    let s : Stands (a .n) (a .t1) (t .setter-place .result) =
-    record { room = omega arith; rising = k .pre .4; one = k .pre .6; place = t .setter-place .ensures .1; within = omega arith } in
-    let e = g .guarantee .ensures ∙ number-at s (guarantee (a .q .0)) _ in
-    let b = kept s (a .lot .0) (a .q .0) _ (t .before .lot-sharing .ensures) e (c .if2 .left) in (
-      k .pre .0,
-      k .pre .1,
-      k .pre .3,
-      k .pre .4,
-      k .pre .6,
-      s .within,
-      s .place,
-      e,
-      rw e (room (a .lot .0) (a .q .0) 0 ps (k .pre .1) (k .pre .2) (k .pre .4) (member-every (λ p. p .minimum ≡ 0) ps (k .pre .5)) b),
+    let a = k g .args in
+    let p = k g .pre in
+    let b = kept (stands g) (a .lot .0) (a .q .0) _ (t g .before .lot-sharing .ensures) (guaranteed g) (c .if2 .left) in (
+      p .0,
+      p .1,
+      p .3,
+      p .4,
+      p .6,
+      stands g .within,
+      stands g .place,
+      guaranteed g,
+      rw (guaranteed g)
+          (room (a .lot .0) (a .q .0) 0 (group g) (p .1) (p .2) (p .4) (member-every (λ p. p .minimum ≡ 0) (group g) (p .5)) b),
     )
 
 returns-3 : tie.Need-returns-3
 returns-3 c =
     let g = c .before .before .before .before .before in
-    let t = g .before .before .before in
-    let k = t .before .before in
-    let a = k .args in
-    let ps = partsOf (a .n) (a .t1) in
-    let s : Stands (a .n) (a .t1) (t .setter-place .result) =
-    record { room = omega arith; rising = k .pre .4; one = k .pre .6; place = t .setter-place .ensures .1; within = omega arith } in
-    let e = g .guarantee .ensures ∙ number-at s (guarantee (a .q .0)) _ in
-    rw (sharing-beside (a .lot .0) (a .q .0) ps (kept s (a .lot .0) (a .q .0) _ (t .before .lot-sharing .ensures) e (c .before .if2 .left)))
+    let a = k g .args in
+    rw
+    (sharing-beside (a .lot .0) (a .q .0) (group g)
+    (kept (stands g) (a .lot .0) (a .q .0) _ (t g .before .lot-sharing .ensures) (guaranteed g) (c .before .if2 .left)))
     (c .beside-setter .ensures)
 
 pub setter-sharing-spec : {M : Type 1} → statement M

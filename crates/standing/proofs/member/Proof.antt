@@ -15,8 +15,7 @@ returns-2 : tie.Need-returns-2
 returns-2 c =
     let s = c .before .before .before in
     let a = s .before .args in
-    rw (s .standing .ensures, c .minimum .ensures)
-    (member-some (a .level) (a .paragraph) (a .order) (λ z. c .before .if1 .left (s .standing .ensures ∙ z)))
+    member-some (a .level) (a .paragraph) (a .order) (s .standing .ensures) (c .minimum .ensures) (c .before .if1 .left)
 
 pub member-spec : {M : Type 1} → statement M
 member-spec =

@@ -37,8 +37,8 @@ returns-2 c =
     let a = t .before .before .before .args in
     let q : TakeRequest = record { side = a .side; limit = a .limit; size = a .size; algorithm = a .algorithm } in
     let b = check-refused (a .book .now) _ (k .check .ensures) (c .before .if2 .taken) in
-    rw (c .refused2 .ensures, b .1)
-    (refused-book q (a .book .now) (a .executions .now) (sym (t .in-range .ensures) ∙ not-false _ (k .before .before .if1 .left)) (b .0))
+    rw (c .refused2 .ensures)
+    (refused-book q (a .book .now) (a .executions .now) (sym (t .in-range .ensures) ∙ not-false _ (k .before .before .if1 .left)) (b .1) (b .0))
 
 -- what was seen before shares are allocated: the numbers are in range, the book is sound and has so many orders
 seen : (c : tie.Else2)
