@@ -29,8 +29,8 @@ order side number price setter = record {
 crossed : List ℕ
 crossed = bookOf 3 (order Buy 7 100100 true ∷ order Sell 9 100000 true ∷ [])
 
-values : List Bool
-values =
+checking : List Bool
+checking =
     -- 0 to 8,192 bytes
     sound [] ∷
     sound (replicate 8192 0) ∷
@@ -45,8 +45,11 @@ values =
     not (sound (bookOf 2 (order Buy 7 100100 true ∷ order Buy 9 100100 true ∷ []))) ∷
     sound (bookOf 2 (order Buy 7 100100 true ∷ order Buy 9 100200 true ∷ [])) ∷
     eqb (checkCall (set crossed 0 1) .refusal) 2 ∷
-    eqb (checkCall (set crossed 0 1) .orders) 0 ∷
-    -- find: the second record; no such order; the number before the book, the book before its orders
+    eqb (checkCall (set crossed 0 1) .orders) 0 ∷ []
+
+-- the second record; no such order; the number before the book, the book before its orders
+finding : List Bool
+finding =
     sameNumbers (foundPart (findCall 9 crossed) crossed) (take 32 (drop 32 crossed)) ∷
     (eqb (findCall 9 crossed .start) 32 && eqb (findCall 9 crossed .length) 32) ∷
     eqb (findCall 8 crossed .refusal) 3 ∷
@@ -54,6 +57,10 @@ values =
     eqb (findCall 8 (set crossed 0 1) .refusal) 2 ∷
     sameNumbers (foundPart (findCall 8 crossed) crossed) [] ∷ []
 
-worked : all (λ b. b) values ≡ true
-unfolding values crossed order sound ordersOf bookOf checkCall findCall encode decode numbersOf orderOf numbersSound
-worked = refl
+checking-worked : all (λ b. b) checking ≡ true
+unfolding checking crossed order sound ordersOf bookOf checkCall findCall encode decode numbersOf orderOf numbersSound
+checking-worked = refl
+
+finding-worked : all (λ b. b) finding ≡ true
+unfolding finding crossed order sound ordersOf bookOf checkCall findCall encode decode numbersOf orderOf numbersSound
+finding-worked = refl

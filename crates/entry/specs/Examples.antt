@@ -36,9 +36,9 @@ one = add 2 1 7 100100 500 0 empty .book
 two : List ℕ
 two = add 2 3 9 100000 400 300 one .book
 
-values : List Bool
-values =
-    -- add's refusals, each before the next
+-- add's refusals, each before the next
+refusing : List Bool
+refusing =
     refusal (add 3 1 0 5 5 0 (set two 95 1)) 1 ∷
     refusal (add 1 1 10 5 5 1 two) 1 ∷
     refusal (add 1 3 10 5 5 6 two) 1 ∷
@@ -49,15 +49,21 @@ values =
     refusal (add 1 1 10 100000 300 0 two) 5 ∷
     refusal (add 1 1 10 100000 299 0 two) 0 ∷
     refusal (add 1 1 1 5 5 0 []) 6 ∷
-    sameNumbers (add 1 1 9 200000 5 0 two .book) two ∷
-    -- the setter mark: on an empty side; strictly better; not at an equal price, not below a lot, not hidden; hidden orders don't prevent it
+    sameNumbers (add 1 1 9 200000 5 0 two .book) two ∷ []
+
+-- the setter mark: on an empty side; strictly better; not at an equal price, not below a lot, not hidden; hidden orders don't prevent it
+marking : List Bool
+marking =
     eqb (getD two 20 0) 1 ∷
     marks (add 2 1 10 100000 100 0 two) 1 ∷
     marks (add 2 1 10 100100 100 0 two) 0 ∷
     marks (add 2 1 10 100000 99 0 two) 0 ∷
     marks (add 2 2 10 90000 100 0 two) 0 ∷
-    marks (add 1 1 10 50000 100 0 two) 1 ∷
-    -- reduce: its refusals, a minimum lowered, an order that leaves
+    marks (add 1 1 10 50000 100 0 two) 1 ∷ []
+
+-- reduce: its refusals, a minimum lowered, an order that leaves
+reducing : List Bool
+reducing =
     refusal (reduceCall 0 5 (set two 95 1)) 1 ∷
     refusal (reduceCall 9 1000000 two) 1 ∷
     refusal (reduceCall 8 1 (set two 95 1)) 2 ∷
@@ -67,6 +73,14 @@ values =
     sameNumbers (reduceCall 9 400 two .book) one ∷
     sameNumbers (reduceCall 7 500 two .book) (add 2 3 9 100000 400 300 empty .book) ∷ []
 
-worked : all (λ b. b) values ≡ true
-unfolding values two one empty marks refusal add addCall added setsPrice requested reduceCall reduced sound ordersOf bookOf encode decode numbersOf orderOf numbersSound withInterest settled
-worked = refl
+refusing-worked : all (λ b. b) refusing ≡ true
+unfolding refusing two one empty marks refusal add addCall added setsPrice requested reduceCall reduced sound ordersOf bookOf encode decode numbersOf orderOf numbersSound withInterest settled
+refusing-worked = refl
+
+marking-worked : all (λ b. b) marking ≡ true
+unfolding marking two one empty marks refusal add addCall added setsPrice requested reduceCall reduced sound ordersOf bookOf encode decode numbersOf orderOf numbersSound withInterest settled
+marking-worked = refl
+
+reducing-worked : all (λ b. b) reducing ≡ true
+unfolding reducing two one empty marks refusal add addCall added setsPrice requested reduceCall reduced sound ordersOf bookOf encode decode numbersOf orderOf numbersSound withInterest settled
+reducing-worked = refl

@@ -37,7 +37,7 @@ fn digest_of(buffer: &[u8]) -> u32 {
 }
 
 // That number, at the end of a line.
-pub fn digest(buffer: &[u8]) {
+fn digest(buffer: &[u8]) {
     text(b" digest");
     number(digest_of(buffer));
     text(b"\n");

@@ -1,5 +1,5 @@
 -- `take::take` meets its contract, refusal by refusal, and for an accepted take.
-use Prim.Native.Nat.{_*_}
+use Prim.Native.Nat.{_*_, _/_, _≤_}
 use mathlib.Core.Path.{_≡_, sym, ap, _∙_}
 use mathlib.Core.Bool.{true}
 use mathlib.Core.List.{List}
@@ -8,8 +8,11 @@ use borrow.Author.Needs.{needs}
 use borrow.Author.Tests.{not-true, not-false}
 use lib.ListN.{length, take}
 use lib.Seq.{length-take-le}
+use Rattle.units.specs.Lists.{filter, zipWith}
 use Rattle.units.specs.Lots.{roundLot}
 use Rattle.orders.specs.declared.order.Order.{Order}
+use Rattle.orders.specs.Order.{settled, isResting}
+use Rattle.orders.specs.Losses.{lossesIn}
 use Rattle.book.specs.Sound.{sound, ordersOf, bookOf, capacityOf}
 use Rattle.book.proofs.Checking.{sound-fits, check-accepted, check-refused}
 use Rattle.matching.specs.declared.TakeRequest.{TakeRequest}
@@ -116,6 +119,10 @@ array-share-prefix-log c =
     let d = c .before .before .before .before .before .before .before in
     omega (arith, bounded d .counted)
 
+-- the executions have room
+room : (e : tie.Else3) → let d = e .before .before .before .before in kept d .count ≤ length (s d .args .executions .now) / 16
+room e = e .if3 .left
+
 slice-aggregate-put : tie.Need-slice-aggregate-put
 slice-aggregate-put c = sym (log-long (c .before .before .before .before .before .before .before .before))
 
@@ -123,7 +130,7 @@ put-requires : tie.Need-put-requires
 put-requires c κs =
     let e = c .before .before .before .before in
     let d = e .before .before .before .before in
-    omega (arith, log-long d, e .if3 .left)
+    omega (arith, log-long d, room e)
 
 settle-requires : tie.Need-settle-requires
 settle-requires c κs =
@@ -131,6 +138,14 @@ settle-requires c κs =
     let w = seen (x d) in
     let f = sound-fits (s d .args .book .now) (w .1) in
     (w .1, w .2, omega (arith, f .1, w .2, bounded d .longShown), omega (arith, f .1, w .2, bounded d .longHidden))
+
+-- the book's orders lost what is kept as their losses
+lost : (t : tie.After-settle)
+    → let d = t .before .before .before .before .before .before .before .before .before .before .before .before .before .before .before in
+    let b = s d .args .book .now in
+    t .settle .last .0
+    ≡ bookOf (capacityOf b) (filter isResting (zipWith settled (lossesIn (x d .before .check .result .orders) (kept d .shown) (kept d .hidden)) (os d)))
+lost t = t .settle .ensures
 
 returns-4 : tie.Need-returns-4
 returns-4 c =
@@ -141,8 +156,8 @@ returns-4 c =
     let a = s d .args in
     let w = seen (x d) in
     accepted (q d) (a .book .now) (a .executions .now) (w .0) (w .1) (counted d) (decided-left (q d) (os d) (kept d) (bounded d) (decided d))
-    (t .settle .ensures ∙ ap (bookOf (capacityOf (a .book .now))) (decided-orders (q d) (os d) (kept d) (bounded d) (decided d) (w .2)))
-    (p .put .ensures ∙ decided-written (q d) (os d) (kept d) (bounded d) (decided d) (a .executions .now)) (omega (arith, e .if3 .left))
+    (lost t ∙ ap (bookOf (capacityOf (a .book .now))) (decided-orders (q d) (os d) (kept d) (bounded d) (decided d) (w .2)))
+    (p .put .ensures ∙ decided-written (q d) (os d) (kept d) (bounded d) (decided d) (a .executions .now)) (omega (arith, room e))
 
 pub take-spec : {M : Type 1} → statement M
 take-spec =

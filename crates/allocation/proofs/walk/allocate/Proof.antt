@@ -78,6 +78,10 @@ module _ (l : tie.At-loop Inv-loop μ-loop) where
   ranks-long : s .args .n ≡ length (take (s .args .n) (l .before .before .before .ranks .result))
   ranks-long = sym (length-take-le (s .args .n) (l .before .before .before .ranks .result) (l .loop .inv .0))
 
+-- no shares are left
+spent : (c : tie.Then2 Inv-loop μ-loop) → c .before .before .before .before .before .before .loop .progress .incoming .size .0 ≡ 0
+spent c = c .if2 .taken
+
 returns : tie.Need-returns Inv-loop μ-loop
 returns c =
     let l = c .before .before .before .before .before .before in
@@ -85,7 +89,7 @@ returns c =
     let a = s l .args in
     let p = s l .pre in (
       at-price-end (a .book .now) (p .0) (a .lot) (a .algorithm) (a .incoming) (first (a .incoming) (a .log .now) (p .3) (p .4))
-          (started-state (a .incoming) (a .log .now) (p .3) (p .4)) (p .1) (kept l) (at-price-spent w (c .if2 .taken)),
+          (started-state (a .incoming) (a .log .now) (p .3) (p .4)) (p .1) (kept l) (at-price-spent w (spent c)),
       w .toward .bounded,
     )
 

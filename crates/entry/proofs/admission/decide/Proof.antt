@@ -1,9 +1,16 @@
 -- `entry::admission::decide` meets its contract, refusal by refusal.
-use mathlib.Core.Path.{sym, _∙_}
+use Prim.Native.Nat.{_≤_}
+use mathlib.Core.Path.{_≡_, sym, _∙_}
+use mathlib.Core.Bool.{_&&_}
 use native.Mathlib.Omega.{arith}
 use borrow.Author.Needs.{needs}
 use borrow.Author.Tests.{not-true, not-false}
+use lib.Dec.{leb}
+use Rattle.units.specs.Lots.{roundLot}
+use Rattle.orders.specs.Order.{isDisplayed, interestOf}
+use Rattle.book.specs.Sound.{capacityOf}
 use Rattle.book.proofs.Checking.{sound-fits, check-accepted}
+use Rattle.entry.specs.Add.{requested}
 use Rattle.entry.proofs.AddPlan.{add-range, add-refused, stale-refused, trades-refused, full-refused, order-admitted}
 use Rattle.entry.proofs.admission.decide.Statement.{statement}
 use Rattle.entry.proofs.admission.decide.Tie as tie
@@ -51,6 +58,12 @@ returns-4 c =
     trades-refused (a .request) (a .book .now) e _ (k .check .ensures) (n .before .before .if2 .left) _ (n .requested .ensures) _
     (g .standing-in .ensures) (c .before .if3 .left) (c .if4 .taken)
 
+-- there is no free record
+full : (c : tie.Then5)
+    → let k = c .before .before .before .before .before .before .before in
+    capacityOf (k .before .before .before .before .args .book .now) ≤ k .check .result .orders
+full c = c .if5 .taken
+
 returns-5 : tie.Need-returns-5
 returns-5 c =
     let g = c .before .before .before in
@@ -60,7 +73,18 @@ returns-5 c =
     let a = t .before .before .args in
     let e = sym (t .in-range .ensures) ∙ not-false _ (k .before .if1 .left) in
     full-refused (a .request) (a .book .now) e _ (k .check .ensures) (n .before .before .if2 .left) _ (n .requested .ensures) _
-    (g .standing-in .ensures) (c .before .before .if3 .left) (c .before .if4 .left) (c .if5 .taken)
+    (g .standing-in .ensures) (c .before .before .if3 .left) (c .before .if4 .left) (full c)
+
+-- the order that comes in is marked where it sets the price
+marked : (c : tie.After-requested2)
+    → let g = c .before .before .before .before .before .before .before .before .before .before in
+    let new = g .before .requested .result in
+    c .requested2 .result
+    ≡ requested (g .before .before .before .before .before .before .before .before .args .request)
+    (isDisplayed (new .kind) && leb roundLot (interestOf new .displayed) && g .standing-in .result .beats)
+marked c =
+    let i = c .before .before .before .before in
+    rw (i .is-displayed .ensures, i .before .displayed .ensures, i .before .before .round-lot .ensures) at (c .requested2 .ensures)
 
 returns-6 : tie.Need-returns-6
 returns-6 c =
@@ -72,9 +96,8 @@ returns-6 c =
     let t = k .before .before in
     let a = t .before .before .args in
     let e = sym (t .in-range .ensures) ∙ not-false _ (k .before .if1 .left) in
-    let m = rw (i .is-displayed .ensures, i .before .displayed .ensures, i .before .before .round-lot .ensures) at (c .requested2 .ensures) in
     order-admitted (a .request) (a .book .now) e _ (k .check .ensures) (n .before .before .if2 .left) _ (n .requested .ensures) _
-    (g .standing-in .ensures) (l .before .before .if3 .left) (l .before .if4 .left) (l .if5 .left) _ m
+    (g .standing-in .ensures) (l .before .before .if3 .left) (l .before .if4 .left) (l .if5 .left) _ (marked c)
 
 pub decide-spec : {M : Type 1} → statement M
 decide-spec =
