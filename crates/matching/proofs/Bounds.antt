@@ -1,5 +1,5 @@
 -- The lot bounds of the fairness demand, and what it demands of a price setter and beside one.
-use Prim.Native.Nat.{ℕ, _-_, _≤_, _<_, min}
+use Prim.Native.Nat.{ℕ, _-_, _*_, _/_, _≤_, _<_, min}
 use mathlib.Core.Path.{_≡_, refl, sym, ap, _∙_, subst, subst⁻¹}
 use mathlib.Core.Logic.{_⊎_, inl, inr}
 use mathlib.Core.Bool.{Bool, true, false}
@@ -8,6 +8,7 @@ use native.Mathlib.Omega.{arith}
 use native.Mathlib.Nat.{min-comm}
 use lib.Dec.{T, leb}
 use Rattle.units.specs.Lists.{total}
+use Rattle.units.specs.Lots.{roundDown}
 use Rattle.units.proofs.Tests.{T-true, true-T, true-and}
 use Rattle.units.proofs.Members.{any-member}
 use Rattle.sharing.specs.Rank.{Part, partSize, Rising}
@@ -113,9 +114,12 @@ module _ (lot : ℕ) (l : 0 < lot) (alg : Algorithm) (i : Incoming) (os : List O
       gets-varied = gets-by PriceSetter (λ e. let z : _≡_ {A = ℕ} 0 1 = cc in omega arith)
 
       -- plain lot sharing is within the bounds
+      share-bounds : LotBounds lot (D price) (S price) (size o) (lotShare lot q group (part o))
+      share-bounds =
+          same-bounds divided-is (counted-total lot i price os) size-is refl (lots-bounds lot q 0 group group-rising (omega arith) (part o) in-group)
+
       plain-bounds : gets es o ≡ lotShare lot q group (part o) → LotBounds lot (D price) (S price) (size o) (gets es o)
-      plain-bounds e =
-          same-bounds divided-is (counted-total lot i price os) size-is (sym e) (lots-bounds lot q 0 group group-rising (omega arith) (part o) in-group)
+      plain-bounds e = same-bounds refl refl refl (sym e) share-bounds
 
     -- the price-setter variation: the setter of the price gets the guarantee
     abbrev kept : Bool
@@ -143,6 +147,14 @@ module _ (lot : ℕ) (l : 0 < lot) (alg : Algorithm) (i : Incoming) (os : List O
             let z = of-the-setter (lotShare lot q group) in
             let w = gets-varied s a v ∙ setter-plain lot q group k (part s) in
             omega (arith, guarantee-is)
+
+        -- the setter gets at least its exact share, rounded down to whole lots, where the guarantee is kept: plain sharing gives it no more
+        kept-least : kept ≡ true → roundDown lot (size s * D price / S price) ≤ gets es s
+        kept-least k =
+            let x = kept-means lot q group k .1 in
+            let y = of-the-setter (guarantee q) in
+            let z = of-the-setter (lotShare lot q group) in
+            omega (arith, guarantee-is, gets-kept k, share-bounds s a .atLeast)
 
         -- beside a setter that gets the guarantee the others are within the bounds, with what it leaves and their own total
         other-bounds : kept ≡ true → (o : Order) → Here o → ¬ (o .number ≡ s .number) → LotBounds lot (D price - gets es s) (S price - size s) (size o) (gets es o)
@@ -219,7 +231,21 @@ module _ (lot : ℕ) (l : 0 < lot) (alg : Algorithm) (i : Incoming) (os : List O
       go true k = omega (arith, gets-kept (priceOf s) (h .variation) s a (T-true (s .setter) (h .marked)) k)
       go false k = omega (arith, gets-more (priceOf s) (h .variation) s a (T-true (s .setter) (h .marked)) k)
 
-  -- beside a setter that gets exactly that, the lot bounds hold for the others, with what it leaves and their own total
+  -- nor does it get less than its exact share, rounded down to whole lots
+  pub setter-least : (s : Order) → Setter lot alg i os es s
+      → roundDown lot (countedSize lot alg i os es s * dividedAt lot alg i os es (priceOf s) / totalAt lot alg i os es (priceOf s)) ≤ gets es s
+  setter-least s h = go (kept (priceOf s)) refl
+    where
+      a : Here (priceOf s) s
+      a = record { shares = h .shares; here = refl }
+
+      go : (k : Bool) → kept (priceOf s) ≡ k → roundDown lot (size s * D (priceOf s) / S (priceOf s)) ≤ gets es s
+      go true k = kept-least (priceOf s) (h .variation) s a (T-true (s .setter) (h .marked)) k
+      go false k =
+          let e = gets-varied (priceOf s) s a (h .variation) ∙ setter-plain lot (q (priceOf s)) (group (priceOf s)) k (part (priceOf s) s) in
+          plain-bounds (priceOf s) s a e .atLeast
+
+  -- beside a setter that gets exactly what it is guaranteed, the lot bounds hold for the others, with what it leaves and their own total
   pub beside-setter : (s : Order) → HeldToGuarantee lot alg i os es s → (o : Order) → Sharing lot alg i os es o → priceOf o ≡ priceOf s → ¬ (o .number ≡ s .number)
       → LotBounds lot (dividedAt lot alg i os es (priceOf s) - gets es s) (totalAt lot alg i os es (priceOf s) - countedSize lot alg i os es s)
       (countedSize lot alg i os es o) (gets es o)

@@ -24,7 +24,7 @@ use Rattle.matching.specs.Take.{Outcome, outcome}
 use Rattle.matching.specs.declared.TakeRequest.{TakeRequest}
 use Rattle.matching.specs.TakeCall.{incomingOf, outcomeOf, written, takeCall}
 use Rattle.matching.specs.Fairness.{executedShares, gets, reaching, Fair, FairTake}
-use Rattle.matching.proofs.Bounds.{lot-bounds, setter-share, beside-setter}
+use Rattle.matching.proofs.Bounds.{lot-bounds, setter-share, setter-least, beside-setter}
 use Rattle.matching.proofs.Unmet.{left-over, left-unmet}
 use Rattle.matching.proofs.Executed.{executions-fit}
 use Rattle.matching.proofs.Taking.{call, in-range, take-orders, take-count, take-left, take-written}
@@ -36,6 +36,7 @@ pub outcome-fair : (lot : ℕ) → 0 < lot → (alg : Algorithm) (i : Incoming) 
 outcome-fair lot l alg i os h = record {
   lotBounds = lot-bounds lot l alg i os (h .rise) (h .setters);
   setterShare = setter-share lot l alg i os (h .rise) (h .setters);
+  setterLeast = setter-least lot l alg i os (h .rise) (h .setters);
   besideSetter = beside-setter lot l alg i os (h .rise) (h .setters);
   leftOver = left-over lot l alg i os h;
   unmet = left-unmet lot l alg i os h;

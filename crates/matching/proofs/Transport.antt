@@ -40,6 +40,7 @@ module _ (lot : ℕ) (alg : Algorithm) (i : Incoming) (os : List Order) where
       record {
         lotBounds = λ n o h k. rw (a .same-gets o, a .same-reaching (priceOf o)) at (f .lotBounds n o (sharing b o h) (λ s g e. k s (held a s g) e));
         setterShare = λ s h. rw (a .same-gets s, a .same-reaching (priceOf s)) at (f .setterShare s (setter b s h));
+        setterLeast = λ s h. rw (a .same-gets s, a .same-reaching (priceOf s)) at (f .setterLeast s (setter b s h));
         besideSetter = λ s h o g e n. rw (a .same-gets s, a .same-gets o, a .same-reaching (priceOf s)) at (f .besideSetter s (held b s h) o (sharing b o g) e n);
         leftOver = rw (a .same-total) at (f .leftOver);
         unmet = f .unmet;

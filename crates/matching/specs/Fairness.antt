@@ -86,7 +86,9 @@ module _ (lot : ℕ) (alg : Algorithm) (i : Incoming) (os : List Order) (es : Li
         → LotBounds lot (dividedAt (priceOf o)) (totalAt (priceOf o)) (countedSize o) (gets es o)
     -- the price setter gets at least 40 percent of the shares divided, or its size
     pub setterShare : (s : Order) → Setter s → guaranteed (dividedAt (priceOf s)) (countedSize s) ≤ gets es s
-    -- beside a setter that gets exactly that, the lot bounds hold for the others, with what it leaves and their own total
+    -- nor does it get less than its exact share, rounded down to whole lots
+    pub setterLeast : (s : Order) → Setter s → roundDown lot (countedSize s * dividedAt (priceOf s) / totalAt (priceOf s)) ≤ gets es s
+    -- beside a setter that gets exactly what it is guaranteed, the lot bounds hold for the others, with what it leaves and their own total
     pub besideSetter : (s : Order) → HeldToGuarantee s → (o : Order) → Sharing o → priceOf o ≡ priceOf s → ¬ (o .number ≡ s .number)
         → LotBounds lot (dividedAt (priceOf s) - gets es s) (totalAt (priceOf s) - countedSize s) (countedSize o) (gets es o)
     -- what is left over is the incoming size less the shares of all executions
