@@ -1,0 +1,61 @@
+/* A book is made by add, searched, reduced and taken from. Built, with the library installed below DIR, by
+ *     cc -std=c99 -IDIR/include allocate.c -LDIR/lib -lruhvasto */
+#include <inttypes.h>
+#include <stdio.h>
+#include <ruhvasto.h>
+
+static uint8_t book[16 * RUHVASTO_RECORD_BYTES]; /* for 16 orders, none yet */
+static uint8_t executions[RUHVASTO_EXECUTIONS_BYTES];
+
+/* A displayed sell. */
+static uint32_t add_sell(uint32_t number, uint32_t price, uint32_t size)
+{
+    return ruhvasto_add(book, sizeof book, RUHVASTO_SELL, RUHVASTO_DISPLAYED, number, price, size, 0);
+}
+
+static void print_order(ruhvasto_order order)
+{
+    printf("order %" PRIu32 " price %" PRIu32 " size %" PRIu32 "%s\n", order.number, order.price, order.size, order.setter ? " setter" : "");
+}
+
+static void print_book(void)
+{
+    ruhvasto_checked checked = ruhvasto_check(book, sizeof book);
+    printf("book refusal %" PRIu32 " orders %" PRIu32 "\n", checked.refusal, checked.orders);
+    for (uint32_t i = 0; i < checked.orders; i++)
+        print_order(ruhvasto_order_at(book + i * RUHVASTO_RECORD_BYTES));
+}
+
+static void find(uint32_t number)
+{
+    ruhvasto_found found = ruhvasto_find(book, sizeof book, number);
+    printf("find %" PRIu32 " refusal %" PRIu32 "\n", number, found.refusal);
+    if (found.refusal == RUHVASTO_ACCEPTED)
+        print_order(ruhvasto_order_at(book + found.start));
+}
+
+static void take(uint32_t side, uint32_t limit, uint32_t size, uint32_t algorithm)
+{
+    ruhvasto_taken taken = ruhvasto_take(book, sizeof book, executions, sizeof executions, side, limit, size, algorithm);
+    printf("take refusal %" PRIu32 " executions %" PRIu32 " left %" PRIu32 "\n", taken.refusal, taken.count, taken.left);
+    for (uint32_t i = 0; i < taken.count; i++) {
+        ruhvasto_execution execution = ruhvasto_execution_at(executions + i * RUHVASTO_EXECUTION_BYTES);
+        printf("%" PRIu32 " shares from order %" PRIu32 " at %" PRIu32 "\n", execution.shares, execution.number, execution.price);
+    }
+}
+
+int main(void)
+{
+    printf("add 1 refusal %" PRIu32 "\n", add_sell(1, 100100, 1000));
+    printf("add 2 refusal %" PRIu32 "\n", add_sell(2, 100000, 1000));
+    printf("add 3 refusal %" PRIu32 "\n", add_sell(3, 100000, 3000));
+    printf("add 4 refusal %" PRIu32 "\n", add_sell(4, 100000, 1000));
+    print_book();
+    find(3);
+    printf("reduce 1 refusal %" PRIu32 "\n", ruhvasto_reduce(book, sizeof book, 1, 400));
+    take(RUHVASTO_BUY, 100000, 1000, RUHVASTO_PRO_RATA_SETTER);
+    print_book();
+    find(5);
+    printf("add 4 refusal %" PRIu32 "\n", add_sell(4, 100000, 1000));
+    return 0;
+}

@@ -1,0 +1,85 @@
+//! A book is made by add, searched, reduced and taken from. Built, with the library installed below DIR, by
+//!     rustc --edition 2021 -L DIR/lib allocate.rs
+#[allow(dead_code)] // not every name of the module is used here
+mod ruhvasto;
+
+use ruhvasto::{Algorithm, Execution, Kind, Order, Refusal, Side};
+
+/// A displayed sell.
+fn add_sell(book: &mut [u8], number: u32, price: u32, size: u32) {
+    let answer = ruhvasto::add(book, Side::Sell, Kind::Displayed, number, price, size);
+    println!("add {number} refusal {}", refusal(&answer));
+}
+
+fn refusal<T>(answer: &Result<T, Refusal>) -> u32 {
+    answer.as_ref().err().map_or(0, |refusal| refusal.0)
+}
+
+fn print_order(order: Order) {
+    let setter = if order.setter { " setter" } else { "" };
+    println!(
+        "order {} price {} size {}{setter}",
+        order.number, order.price, order.size
+    );
+}
+
+fn print_book(book: &[u8]) {
+    let answer = ruhvasto::check(book);
+    let orders = *answer.as_ref().unwrap_or(&0);
+    println!("book refusal {} orders {orders}", refusal(&answer));
+    for record in book
+        .chunks_exact(ruhvasto::RECORD_BYTES)
+        .take(orders as usize)
+    {
+        print_order(Order::of(record));
+    }
+}
+
+fn find(book: &[u8], number: u32) {
+    let answer = ruhvasto::find(book, number);
+    println!("find {number} refusal {}", refusal(&answer));
+    if let Ok(record) = answer {
+        print_order(Order::of(record));
+    }
+}
+
+fn take(book: &mut [u8], side: Side, limit: u32, size: u32, algorithm: Algorithm) {
+    let mut executions = [0; ruhvasto::EXECUTIONS_BYTES];
+    match ruhvasto::take(book, &mut executions, side, limit, size, algorithm) {
+        Err(Refusal(refusal)) => println!("take refusal {refusal} executions 0 left 0"),
+        Ok(taken) => {
+            println!(
+                "take refusal 0 executions {} left {}",
+                taken.count, taken.left
+            );
+            for bytes in executions
+                .chunks_exact(ruhvasto::EXECUTION_BYTES)
+                .take(taken.count as usize)
+            {
+                let execution = Execution::of(bytes);
+                println!(
+                    "{} shares from order {} at {}",
+                    execution.shares, execution.number, execution.price
+                );
+            }
+        }
+    }
+}
+
+fn main() {
+    let mut book = [0; 16 * ruhvasto::RECORD_BYTES]; // for 16 orders, none yet
+    add_sell(&mut book, 1, 100100, 1000);
+    add_sell(&mut book, 2, 100000, 1000);
+    add_sell(&mut book, 3, 100000, 3000);
+    add_sell(&mut book, 4, 100000, 1000);
+    print_book(&book);
+    find(&book, 3);
+    println!(
+        "reduce 1 refusal {}",
+        refusal(&ruhvasto::reduce(&mut book, 1, 400))
+    );
+    take(&mut book, Side::Buy, 100000, 1000, Algorithm::ProRataSetter);
+    print_book(&book);
+    find(&book, 5);
+    add_sell(&mut book, 4, 100000, 1000);
+}

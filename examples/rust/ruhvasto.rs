@@ -1,0 +1,209 @@
+//! The library's five calls for Rust. What each does, its ranges and its refusals are in ruhvasto.h. A slice is always to as many bytes as it
+//! says, never NULL, and two that are lent at once to be written never overlap: so these functions are safe.
+
+pub const RECORD_BYTES: usize = 32;
+pub const EXECUTION_BYTES: usize = 16;
+/// An execution buffer of this length is never too small.
+pub const EXECUTIONS_BYTES: usize = 4096;
+
+/// The refusal number.
+#[derive(Clone, Copy, Debug, PartialEq, Eq)]
+pub struct Refusal(pub u32);
+
+#[derive(Clone, Copy)]
+pub enum Side {
+    Buy = 1,
+    Sell = 2,
+}
+
+#[derive(Clone, Copy)]
+pub enum Kind {
+    Displayed,
+    NonDisplayed,
+    /// With its minimum.
+    MinimumQuantity(u32),
+}
+
+#[derive(Clone, Copy)]
+pub enum Algorithm {
+    PriceTime = 1,
+    ProRata = 2,
+    ProRataSetter = 3,
+}
+
+/// An accepted take: how many executions it wrote, and the shares left.
+pub struct Taken {
+    pub count: u32,
+    pub left: u32,
+}
+
+/// The structs that C's calls return.
+mod c {
+    #[repr(C)]
+    pub struct Checked {
+        pub refusal: u32,
+        pub orders: u32,
+    }
+
+    #[repr(C)]
+    pub struct Found {
+        pub refusal: u32,
+        pub start: usize,
+        pub length: usize,
+    }
+
+    #[repr(C)]
+    pub struct Taken {
+        pub refusal: u32,
+        pub count: u32,
+        pub left: u32,
+    }
+
+    #[link(name = "ruhvasto", kind = "static")]
+    extern "C" {
+        pub fn ruhvasto_check(book: *const u8, book_len: usize) -> Checked;
+        pub fn ruhvasto_find(book: *const u8, book_len: usize, number: u32) -> Found;
+        pub fn ruhvasto_add(
+            book: *mut u8,
+            book_len: usize,
+            side: u32,
+            kind: u32,
+            number: u32,
+            price: u32,
+            size: u32,
+            minimum: u32,
+        ) -> u32;
+        pub fn ruhvasto_reduce(book: *mut u8, book_len: usize, number: u32, shares: u32) -> u32;
+        pub fn ruhvasto_take(
+            book: *mut u8,
+            book_len: usize,
+            executions: *mut u8,
+            executions_len: usize,
+            side: u32,
+            limit: u32,
+            size: u32,
+            algorithm: u32,
+        ) -> Taken;
+    }
+}
+
+fn accepted(refusal: u32) -> Result<(), Refusal> {
+    if refusal == 0 {
+        Ok(())
+    } else {
+        Err(Refusal(refusal))
+    }
+}
+
+/// The number of orders of a sound book.
+pub fn check(book: &[u8]) -> Result<u32, Refusal> {
+    let checked = unsafe { c::ruhvasto_check(book.as_ptr(), book.len()) };
+    accepted(checked.refusal)?;
+    Ok(checked.orders)
+}
+
+/// The order's own record.
+pub fn find(book: &[u8], number: u32) -> Result<&[u8], Refusal> {
+    let found = unsafe { c::ruhvasto_find(book.as_ptr(), book.len(), number) };
+    accepted(found.refusal)?;
+    Ok(&book[found.start..found.start + found.length])
+}
+
+pub fn add(
+    book: &mut [u8],
+    side: Side,
+    kind: Kind,
+    number: u32,
+    price: u32,
+    size: u32,
+) -> Result<(), Refusal> {
+    let (kind, minimum) = match kind {
+        Kind::Displayed => (1, 0),
+        Kind::NonDisplayed => (2, 0),
+        Kind::MinimumQuantity(minimum) => (3, minimum),
+    };
+    let (bytes, len) = (book.as_mut_ptr(), book.len());
+    accepted(unsafe {
+        c::ruhvasto_add(bytes, len, side as u32, kind, number, price, size, minimum)
+    })
+}
+
+pub fn reduce(book: &mut [u8], number: u32, shares: u32) -> Result<(), Refusal> {
+    accepted(unsafe { c::ruhvasto_reduce(book.as_mut_ptr(), book.len(), number, shares) })
+}
+
+pub fn take(
+    book: &mut [u8],
+    executions: &mut [u8],
+    side: Side,
+    limit: u32,
+    size: u32,
+    algorithm: Algorithm,
+) -> Result<Taken, Refusal> {
+    let taken = unsafe {
+        c::ruhvasto_take(
+            book.as_mut_ptr(),
+            book.len(),
+            executions.as_mut_ptr(),
+            executions.len(),
+            side as u32,
+            limit,
+            size,
+            algorithm as u32,
+        )
+    };
+    accepted(taken.refusal)?;
+    Ok(Taken {
+        count: taken.count,
+        left: taken.left,
+    })
+}
+
+/// The number in the four bytes from a place on.
+fn number_at(bytes: &[u8], at: usize) -> u32 {
+    u32::from_le_bytes([bytes[at], bytes[at + 1], bytes[at + 2], bytes[at + 3]])
+}
+
+/// The fields of a record.
+pub struct Order {
+    pub side: u8,
+    pub kind: u8,
+    pub number: u32,
+    pub price: u32,
+    pub size: u32,
+    pub minimum: u32,
+    pub setter: bool,
+}
+
+impl Order {
+    /// Of the 32 bytes of a record.
+    pub fn of(record: &[u8]) -> Order {
+        Order {
+            side: record[2],
+            kind: record[3],
+            number: number_at(record, 4),
+            price: number_at(record, 8),
+            size: number_at(record, 12),
+            minimum: number_at(record, 16),
+            setter: record[20] == 1,
+        }
+    }
+}
+
+/// The fields of an execution.
+pub struct Execution {
+    pub number: u32,
+    pub price: u32,
+    pub shares: u32,
+}
+
+impl Execution {
+    /// Of the 16 bytes of an execution.
+    pub fn of(bytes: &[u8]) -> Execution {
+        Execution {
+            number: number_at(bytes, 4),
+            price: number_at(bytes, 8),
+            shares: number_at(bytes, 12),
+        }
+    }
+}

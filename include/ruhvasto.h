@@ -1,0 +1,190 @@
+/* Ruhvasto: a book of resting orders in a buffer that the caller lends, and an incoming order that is shared among them under PSX
+ * Rule 3307 (SR-Phlx-2014-24), by price/time, pro rata, or pro rata with the price-setter variation.
+ *
+ * For x86-64 Linux: C's calling convention there (System V), no instruction beyond those that every x86-64 processor has. The code is
+ * position independent. It is linked by -lruhvasto, and needs memcpy, memmove and memset of the C library and nothing else.
+ *
+ * WHAT THE CALLER OWES. Every number may have any value: one that is out of its range is refused. One duty is left, and nothing checks it:
+ *   - each pointer is to as many bytes as the length behind it says, to be read and, where the pointer isn't const, written;
+ *   - no pointer is NULL, not even to a buffer of no bytes, of which nothing is read or written;
+ *   - the two buffers of take don't overlap;
+ *   - nobody else writes to a buffer during a call, nor reads one that the call may write.
+ * A buffer may lie at any address, however aligned.
+ *
+ * WHAT THE CALLER GETS. Every call ends. Nothing is allocated, and nothing is kept between calls: calls on buffers of their own may run in
+ * any number of threads at once. Take uses less than 60,000 bytes of stack and every other call less than 3,000, beside what those three
+ * functions of the C library use. It is proved of the source that what a call returns and every byte that it leaves in each buffer is what
+ * the definitions of the rule say, refused or not; the compiler is trusted.
+ *
+ * A REFUSED CALL returns its refusal number, 0 in every other number that it returns, and changes no byte of any buffer. The refusals are
+ * checked in the order of their numbers, and the first that holds is returned. An accepted call returns 0 as its refusal number.
+ *
+ * Prices are in ten-thousandths of a dollar: 100000 is 10 dollars. Sizes are in shares, and a round lot has 100 of them. */
+#ifndef RUHVASTO_H
+#define RUHVASTO_H
+
+#include <stddef.h>
+#include <stdint.h>
+
+#ifdef __cplusplus
+extern "C" {
+#endif
+
+/* The version of this interface. It rises with every change that a caller can notice. */
+#define RUHVASTO_VERSION 1
+
+/* THE BOOK is a buffer of 0 to 8,192 bytes, a whole number of records of 32 bytes. Orders fill its front, in rising order number, which is
+ * the order of time; every byte behind them is zero. So a new book is a buffer filled with zeros, 32 bytes for each order that it is
+ * to hold. Numbers of more than one byte have their least significant byte first.
+ *
+ *   byte 0, 1     the mark 4F 42 hex
+ *   byte 2        the side
+ *   byte 3        the kind
+ *   byte 4 to 7   the order number, 1 to 4,294,967,295
+ *   byte 8 to 11  the price, 1 to 2,000,000,000
+ *   byte 12 to 15 the size, 1 to 999,999
+ *   byte 16 to 19 the minimum: 1 to the size for a minimum quantity order, 0 for every other
+ *   byte 20       the setter mark: 1 if the order set its price, else 0; never 1 but for a displayed order
+ *   byte 21 to 31 zero
+ *
+ * At most one order of a side and price has the setter mark. A book with all this is sound. Every call checks all of it before it uses the
+ * book, so a book may be stored, sent and lent again; damage that leaves it sound isn't noticed. */
+#define RUHVASTO_RECORD_BYTES 32
+#define RUHVASTO_BOOK_ORDERS 256
+#define RUHVASTO_BOOK_BYTES 8192
+
+/* AN EXECUTION has 16 bytes, and the same order of bytes in a number.
+ *
+ *   byte 0, 1     the mark 45 58 hex
+ *   byte 2, 3     zero
+ *   byte 4 to 7   the order number of the resting order
+ *   byte 8 to 11  its price, at which the shares are traded
+ *   byte 12 to 15 the shares, 1 to 999,999
+ *
+ * A take has at most one execution for each order of the book, so a buffer of 4,096 bytes is never too small. */
+#define RUHVASTO_EXECUTION_BYTES 16
+#define RUHVASTO_EXECUTIONS_BYTES 4096
+
+#define RUHVASTO_PRICE_MOST 2000000000
+#define RUHVASTO_SIZE_MOST 999999
+#define RUHVASTO_ROUND_LOT 100
+
+/* Sides. */
+enum { RUHVASTO_BUY = 1, RUHVASTO_SELL = 2 };
+
+/* Kinds of order. A minimum quantity order isn't displayed either, and trades only where at least its minimum can be met. */
+enum { RUHVASTO_DISPLAYED = 1, RUHVASTO_NON_DISPLAYED = 2, RUHVASTO_MINIMUM_QUANTITY = 3 };
+
+/* Algorithms of take. */
+enum { RUHVASTO_PRICE_TIME = 1, RUHVASTO_PRO_RATA = 2, RUHVASTO_PRO_RATA_SETTER = 3 };
+
+/* Refusal numbers. */
+enum {
+    RUHVASTO_ACCEPTED = 0,
+    RUHVASTO_OUT_OF_RANGE = 1,    /* a number given in the call is outside its range, a minimum by the kind and the size included */
+    RUHVASTO_UNSOUND_BOOK = 2,    /* the book isn't sound, its length included */
+    RUHVASTO_UNKNOWN_NUMBER = 3,  /* find, reduce: no order has the number */
+    RUHVASTO_STALE_NUMBER = 4,    /* add: the number isn't above every number in the book */
+    RUHVASTO_COULD_TRADE = 5,     /* add: on the other side an order within the price is displayed or non-displayed, or is a minimum
+                                     quantity order whose minimum isn't above the new size */
+    RUHVASTO_BOOK_FULL = 6,       /* add: there is no free record */
+    RUHVASTO_TOO_MANY_SHARES = 7, /* reduce: the order has fewer shares */
+    RUHVASTO_SMALL_BUFFER = 8     /* take: the executions need more bytes than the execution buffer has */
+};
+
+/* What check returns: the number of orders. */
+typedef struct {
+    uint32_t refusal;
+    uint32_t orders;
+} ruhvasto_checked;
+
+/* What find returns: the order's own bytes are those from book + start on, length of them, 32 or, refused, 0. They lie within the book. */
+typedef struct {
+    uint32_t refusal;
+    size_t start;
+    size_t length;
+} ruhvasto_found;
+
+/* What take returns: the number of executions that it wrote, and the shares of the incoming order that are left. */
+typedef struct {
+    uint32_t refusal;
+    uint32_t count;
+    uint32_t left;
+} ruhvasto_taken;
+
+/* Whether the book is sound, and how many orders it has.
+ * Refusals: RUHVASTO_UNSOUND_BOOK. */
+ruhvasto_checked ruhvasto_check(const uint8_t *book, size_t book_len);
+
+/* Where in the book the order of this number lies, 1 to 4,294,967,295. The place holds until the book is changed.
+ * Refusals: RUHVASTO_OUT_OF_RANGE, RUHVASTO_UNSOUND_BOOK, RUHVASTO_UNKNOWN_NUMBER. */
+ruhvasto_found ruhvasto_find(const uint8_t *book, size_t book_len, uint32_t number);
+
+/* Puts an order last in the book. The ranges are those of a record. It gets the setter mark exactly if it is displayed, has a round lot or
+ * more, and is priced strictly better (a buy higher, a sell lower) than every displayed order on its side; so it does if there is none.
+ * Accepted, the order's record stands behind the others, no other byte is changed, and the book is sound.
+ * Refusals: RUHVASTO_OUT_OF_RANGE, RUHVASTO_UNSOUND_BOOK, RUHVASTO_STALE_NUMBER, RUHVASTO_COULD_TRADE, RUHVASTO_BOOK_FULL. */
+uint32_t ruhvasto_add(uint8_t *book, size_t book_len, uint32_t side, uint32_t kind, uint32_t number, uint32_t price, uint32_t size,
+                      uint32_t minimum);
+
+/* Takes shares, 1 to 999,999, from the order of this number. A minimum above the new size becomes the new size. An order without shares
+ * leaves: later orders move up one record, and the last record that was used becomes zero. Accepted, the book is sound.
+ * Refusals: RUHVASTO_OUT_OF_RANGE, RUHVASTO_UNSOUND_BOOK, RUHVASTO_UNKNOWN_NUMBER, RUHVASTO_TOO_MANY_SHARES. */
+uint32_t ruhvasto_reduce(uint8_t *book, size_t book_len, uint32_t number, uint32_t shares);
+
+/* An incoming order of a side, limit price and size (ranges as in a record) takes shares from the orders of the other side that are priced
+ * at its limit or better, the best price first, under an algorithm. Each execution is at the resting order's price.
+ * Accepted, the executions stand at the start of their buffer, one for each order that gave shares, by price (the best first), then by
+ * paragraph of the rule, then by rising order number; the bytes behind them are unchanged. In the book each of these orders has so many
+ * shares less, and a minimum above its new size has become the new size; orders without shares are gone and later ones moved up; the book
+ * is sound. What is left of the incoming order isn't put in the book: that is add's part.
+ * The execution buffer may have any length; only what the executions need is asked for, nothing where there are none.
+ * Refusals: RUHVASTO_OUT_OF_RANGE, RUHVASTO_UNSOUND_BOOK, RUHVASTO_SMALL_BUFFER. */
+ruhvasto_taken ruhvasto_take(uint8_t *book, size_t book_len, uint8_t *executions, size_t executions_len, uint32_t side, uint32_t limit,
+                             uint32_t size, uint32_t algorithm);
+
+/* For reading records and executions. These functions are not in the library; they are compiled where they are used. */
+
+/* Four bytes as a number. */
+static inline uint32_t ruhvasto_number_at(const uint8_t *bytes)
+{
+    return (uint32_t)bytes[0] | (uint32_t)bytes[1] << 8 | (uint32_t)bytes[2] << 16 | (uint32_t)bytes[3] << 24;
+}
+
+/* The fields of a record. */
+typedef struct {
+    uint32_t side, kind, number, price, size, minimum, setter;
+} ruhvasto_order;
+
+static inline ruhvasto_order ruhvasto_order_at(const uint8_t *record)
+{
+    ruhvasto_order order;
+    order.side = record[2];
+    order.kind = record[3];
+    order.number = ruhvasto_number_at(record + 4);
+    order.price = ruhvasto_number_at(record + 8);
+    order.size = ruhvasto_number_at(record + 12);
+    order.minimum = ruhvasto_number_at(record + 16);
+    order.setter = record[20];
+    return order;
+}
+
+/* The fields of an execution. */
+typedef struct {
+    uint32_t number, price, shares;
+} ruhvasto_execution;
+
+static inline ruhvasto_execution ruhvasto_execution_at(const uint8_t *bytes)
+{
+    ruhvasto_execution execution;
+    execution.number = ruhvasto_number_at(bytes + 4);
+    execution.price = ruhvasto_number_at(bytes + 8);
+    execution.shares = ruhvasto_number_at(bytes + 12);
+    return execution;
+}
+
+#ifdef __cplusplus
+}
+#endif
+
+#endif
