@@ -1,0 +1,113 @@
+//! Check, find, add and reduce.
+
+use crate::book::{self, Order, RECORD_LENGTH, ROUND_LOT};
+use crate::Refusal;
+
+/// The refusal number and the number of orders.
+pub fn check(book: &[u8]) -> (u32, u32) {
+    match book::read(book) {
+        Ok(orders) => (0, orders.len() as u32),
+        Err(refusal) => (refusal as u32, 0),
+    }
+}
+
+/// The refusal number, and where the order's own bytes start in the book and
+/// how many they are.
+pub fn find(book: &[u8], number: u32) -> (u32, usize, usize) {
+    match record_of(book, number) {
+        Ok((_, place)) => (0, place * RECORD_LENGTH, RECORD_LENGTH),
+        Err(refusal) => (refusal as u32, 0, 0),
+    }
+}
+
+/// Puts an order last. Gives the refusal number.
+pub fn add(
+    book: &mut [u8],
+    side: u32,
+    kind: u32,
+    number: u32,
+    price: u32,
+    size: u32,
+    minimum: u32,
+) -> u32 {
+    let outcome = Order::of_numbers(side, kind, number, price, size, minimum)
+        .ok_or(Refusal::OutOfRange)
+        .and_then(|order| with_order(book, order));
+    settle(book, outcome)
+}
+
+/// Takes shares from an order. Gives the refusal number.
+pub fn reduce(book: &mut [u8], number: u32, shares: u32) -> u32 {
+    let outcome = with_fewer_shares(book, number, shares);
+    settle(book, outcome)
+}
+
+/// Writes the new orders, or leaves the book alone. Gives the refusal number.
+fn settle(book: &mut [u8], outcome: Result<Vec<Order>, Refusal>) -> u32 {
+    match outcome {
+        Ok(orders) => {
+            book::write(book, &orders);
+            0
+        }
+        Err(refusal) => refusal as u32,
+    }
+}
+
+/// The orders of the book, and the place of the one with this number.
+fn record_of(book: &[u8], number: u32) -> Result<(Vec<Order>, usize), Refusal> {
+    if number == 0 {
+        return Err(Refusal::OutOfRange);
+    }
+    let orders = book::read(book)?;
+    let place = orders.iter().position(|order| order.number == number);
+    Ok((orders, place.ok_or(Refusal::NoSuchOrder)?))
+}
+
+fn with_order(book: &[u8], order: Order) -> Result<Vec<Order>, Refusal> {
+    let mut orders = book::read(book)?;
+    if orders.iter().any(|other| other.number >= order.number) {
+        return Err(Refusal::NumberNotAboveAll);
+    }
+    if orders.iter().any(|other| could_trade(&order, other)) {
+        return Err(Refusal::CouldTrade);
+    }
+    if orders.len() == book.len() / RECORD_LENGTH {
+        return Err(Refusal::NoFreeRecord);
+    }
+    let setter = sets_price(&order, &orders);
+    orders.push(Order { setter, ..order });
+    Ok(orders)
+}
+
+/// Whether a new order could trade with a resting one.
+fn could_trade(new: &Order, resting: &Order) -> bool {
+    resting.side != new.side
+        && new.side.within(new.price, resting.price)
+        && resting.least_fill() <= new.size
+}
+
+/// Whether a new order is displayed, of a round lot or more, and better priced
+/// than every displayed order on its side.
+fn sets_price(new: &Order, orders: &[Order]) -> bool {
+    let mut rivals = orders
+        .iter()
+        .filter(|order| order.side == new.side && order.is_displayed());
+    new.is_displayed()
+        && new.size >= ROUND_LOT
+        && rivals.all(|rival| new.side.is_better(new.price, rival.price))
+}
+
+fn with_fewer_shares(book: &[u8], number: u32, shares: u32) -> Result<Vec<Order>, Refusal> {
+    if !book::size_in_range(shares) {
+        return Err(Refusal::OutOfRange);
+    }
+    let (mut orders, place) = record_of(book, number)?;
+    if shares > orders[place].size {
+        return Err(Refusal::MoreThanOrderHas);
+    }
+    match orders[place].less(shares) {
+        Some(smaller) => orders[place] = smaller,
+        None => drop(orders.remove(place)),
+    }
+    Ok(orders)
+}

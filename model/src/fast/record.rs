@@ -1,0 +1,125 @@
+//! A record read as four numbers of eight bytes.
+
+use crate::book::{Side, HIGHEST_PRICE, LARGEST_SIZE, RECORD_LENGTH};
+
+pub type Bytes = [u8; RECORD_LENGTH];
+
+const DISPLAYED: u32 = 1;
+
+/// The first four bytes of a displayed buy's record: mark, side and kind.
+const FIRST_FORM: u32 = 0x01_01_42_4F;
+/// The last kind less 1, and the byte of the side.
+const LAST_FORM: u64 = 0x02FF;
+const MOST_PRICE_AND_SIZE: u64 = (LARGEST_SIZE as u64) << 32 | HIGHEST_PRICE as u64;
+/// The top bits of the two numbers of four bytes in a word.
+const TOP_BITS: u64 = 1 << 63 | 1 << 31;
+
+/// The places of fields that are read and written alone.
+const NUMBER: usize = 4;
+const SIZE: usize = 12;
+const MINIMUM: usize = 16;
+
+#[derive(Clone, Copy)]
+pub struct Record {
+    words: [u64; 4],
+}
+
+impl Record {
+    #[inline(always)]
+    pub fn of(bytes: &Bytes) -> Record {
+        let (words, _) = bytes.as_chunks::<8>();
+        Record {
+            words: [0, 1, 2, 3].map(|word| u64::from_le_bytes(words[word])),
+        }
+    }
+
+    pub fn side(self) -> u32 {
+        (self.words[0] >> 16) as u32 & 0xFF
+    }
+
+    pub fn kind(self) -> u32 {
+        (self.words[0] >> 24) as u32 & 0xFF
+    }
+
+    pub fn number(self) -> u32 {
+        (self.words[0] >> 32) as u32
+    }
+
+    pub fn price(self) -> u32 {
+        self.words[1] as u32
+    }
+
+    pub fn size(self) -> u32 {
+        (self.words[1] >> 32) as u32
+    }
+
+    pub fn minimum(self) -> u32 {
+        self.words[2] as u32
+    }
+
+    /// The setter mark, and above it three bytes that are zero in a sound record.
+    pub fn setter(self) -> u32 {
+        (self.words[2] >> 32) as u32
+    }
+
+    pub fn is_displayed(self) -> bool {
+        self.kind() == DISPLAYED
+    }
+
+    pub fn is_on(self, side: Side) -> bool {
+        self.side() == side as u32
+    }
+
+    /// Zero exactly if the record is sound and its number above the one before.
+    ///
+    /// The second word has price and size side by side, the third the minimum and
+    /// the setter mark. Both fields of a word are held to their bounds by one
+    /// subtraction of words each way: no bound reaches the top bit of its field,
+    /// and so a field out of range sets the top bit of one of the differences.
+    #[inline(always)]
+    pub fn faults(self, number_before: u32) -> u64 {
+        let [head, price_and_size, minimum_and_setter, zero] = self.words;
+        // The kind less 1 in the second byte, the side less 1 in the first, and
+        // nothing above them if the mark is right.
+        let form = (head as u32).wrapping_sub(FIRST_FORM).rotate_right(16);
+        let displayed = u64::from(form < 0x100);
+        let has_minimum = u64::from(form >> 9);
+        let size = price_and_size >> 32;
+        let most_minimum = size & has_minimum.wrapping_neg();
+        let rise = (head >> 32).wrapping_sub(u64::from(number_before) + 1);
+        let differences = LAST_FORM.wrapping_sub(u64::from(form))
+            | price_and_size.wrapping_sub(1 << 32 | 1)
+            | MOST_PRICE_AND_SIZE.wrapping_sub(price_and_size)
+            | minimum_and_setter.wrapping_sub(has_minimum)
+            | (displayed << 32 | most_minimum).wrapping_sub(minimum_and_setter);
+        let stray = form & !0x0301;
+        zero | u64::from(stray) | (differences & TOP_BITS) | (rise >> 63)
+    }
+}
+
+fn four(bytes: &Bytes, place: usize) -> u32 {
+    u32::from_le_bytes([0, 1, 2, 3].map(|byte| bytes[place + byte]))
+}
+
+fn put_four(bytes: &mut Bytes, place: usize, number: u32) {
+    bytes[place..place + 4].copy_from_slice(&number.to_le_bytes());
+}
+
+pub fn number_of(bytes: &Bytes) -> u32 {
+    four(bytes, NUMBER)
+}
+
+pub fn size_of(bytes: &Bytes) -> u32 {
+    four(bytes, SIZE)
+}
+
+/// Takes shares from an order that has them; a minimum above the new size
+/// becomes the new size. Gives the new size.
+#[inline(always)]
+pub fn lessen(bytes: &mut Bytes, shares: u32) -> u32 {
+    let size = size_of(bytes) - shares;
+    let minimum = four(bytes, MINIMUM).min(size);
+    put_four(bytes, SIZE, size);
+    put_four(bytes, MINIMUM, minimum);
+    size
+}

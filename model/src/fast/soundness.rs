@@ -1,0 +1,106 @@
+//! The pass over a book that finds whether it is sound.
+
+use super::record::{Bytes, Record};
+use crate::book::{Side, LONGEST_BOOK, RECORD_LENGTH};
+use crate::Refusal;
+
+/// The most orders that a book has.
+pub const MOST_ORDERS: usize = LONGEST_BOOK / RECORD_LENGTH;
+
+/// What the pass finds out beside soundness.
+pub struct Sound {
+    pub orders: usize,
+    /// The number of the last order, 0 without one.
+    pub last_number: u32,
+}
+
+/// Checks a book.
+pub fn sound(book: &[u8]) -> Result<Sound, Refusal> {
+    let (records, partial) = book.as_chunks::<RECORD_LENGTH>();
+    if !partial.is_empty() || records.len() > MOST_ORDERS {
+        return Err(Refusal::UnsoundBook);
+    }
+    let mut faults = 0;
+    let mut marks = Marks::default();
+    let mut sound = Sound {
+        orders: 0,
+        last_number: 0,
+    };
+    for bytes in records {
+        if bytes[0] == 0 {
+            break;
+        }
+        let record = Record::of(bytes);
+        faults |= record.faults(sound.last_number);
+        if record.setter() != 0 {
+            marks.note(record);
+        }
+        sound.last_number = record.number();
+        sound.orders += 1;
+    }
+    let (orders, behind) = records.split_at(sound.orders);
+    if faults == 0 && all_zero(behind) && (marks.improve || marks_are_single(orders)) {
+        Ok(sound)
+    } else {
+        Err(Refusal::UnsoundBook)
+    }
+}
+
+fn all_zero(records: &[Bytes]) -> bool {
+    records
+        .as_flattened()
+        .iter()
+        .fold(0, |all, byte| all | byte)
+        == 0
+}
+
+/// Whether the marked orders of a side come at ever better prices. In a book
+/// made by the calls they do, for add marks an order that is better than every
+/// displayed one; and then no two of them have the same price.
+struct Marks {
+    improve: bool,
+    /// The last marked price of sells and of buys, larger for a better one.
+    best: [u32; 2],
+}
+
+impl Default for Marks {
+    fn default() -> Marks {
+        Marks {
+            improve: true,
+            best: [0; 2],
+        }
+    }
+}
+
+impl Marks {
+    #[inline(never)]
+    fn note(&mut self, marked: Record) {
+        let buys = marked.is_on(Side::Buy);
+        let price = if buys {
+            marked.price()
+        } else {
+            !marked.price()
+        };
+        let best = &mut self.best[usize::from(buys)];
+        self.improve &= price > *best;
+        *best = price;
+    }
+}
+
+/// Whether at most one order per side and price has the setter mark, in records
+/// that are sound each for itself.
+#[cold]
+#[inline(never)]
+fn marks_are_single(records: &[Bytes]) -> bool {
+    let mut marked = [0; MOST_ORDERS];
+    let mut count = 0;
+    for record in records.iter().map(Record::of) {
+        if record.setter() != 0 {
+            marked[count] = record.price() << 1 | u32::from(record.is_on(Side::Buy));
+            count += 1;
+        }
+    }
+    let marked = &mut marked[..count];
+    marked.sort_unstable();
+    marked.windows(2).all(|two| two[0] != two[1])
+}

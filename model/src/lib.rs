@@ -1,0 +1,34 @@
+//! Order allocation after PSX Rule 3307, written plainly from the rule and its
+//! scope, so that the library can be compared with it: five calls on the bytes
+//! of a lent book, and the fillsheet over them.
+//!
+//! A book is read into a list of orders, the list is changed, and the whole
+//! book is written anew. Nothing here is meant to be fast, save the module
+//! `fast`, which has the same calls as a measure for the library's speed.
+
+pub mod book;
+mod calls;
+pub mod fast;
+mod fillsheet;
+mod sharing;
+mod take;
+
+pub use calls::{add, check, find, reduce};
+pub use fillsheet::{fillsheet, LONGEST_INPUT};
+pub use take::{read_executions, take, Execution, EXECUTION_LENGTH};
+
+/// Why a call is refused. The conditions are looked at in this order.
+#[derive(Clone, Copy, Debug, PartialEq, Eq)]
+pub enum Refusal {
+    OutOfRange = 1,
+    UnsoundBook = 2,
+    NoSuchOrder = 3,
+    NumberNotAboveAll = 4,
+    CouldTrade = 5,
+    NoFreeRecord = 6,
+    MoreThanOrderHas = 7,
+    ExecutionsDoNotFit = 8,
+}
+
+#[cfg(test)]
+mod tests;

@@ -1,0 +1,196 @@
+//! Take: an incoming order executes against the other side of the book.
+
+use crate::book::{self, Kind, Order, Side, ROUND_LOT};
+use crate::sharing::{self, Allotment};
+use crate::Refusal;
+
+pub const EXECUTION_LENGTH: usize = 16;
+
+const EXECUTION_MARK: [u8; 2] = [0x45, 0x58];
+
+#[derive(Clone, Copy, PartialEq, Eq)]
+enum Algorithm {
+    PriceTime,
+    ProRata,
+    ProRataWithSetter,
+}
+
+struct Incoming {
+    side: Side,
+    limit: u32,
+    size: u32,
+    algorithm: Algorithm,
+}
+
+/// What one resting order traded, at its own price.
+#[derive(Clone, Copy, Debug, PartialEq, Eq)]
+pub struct Execution {
+    pub number: u32,
+    pub price: u32,
+    pub shares: u32,
+}
+
+/// The refusal number, the count of executions and the shares left.
+pub fn take(
+    book: &mut [u8],
+    executions: &mut [u8],
+    side: u32,
+    limit: u32,
+    size: u32,
+    algorithm: u32,
+) -> (u32, u32, u32) {
+    let incoming = Incoming::of_numbers(side, limit, size, algorithm);
+    match decide(book, executions.len(), incoming) {
+        Ok((orders, fills)) => {
+            book::write(book, &orders);
+            write_executions(executions, &fills);
+            let executed: u32 = fills.iter().map(|fill| fill.shares).sum();
+            (0, fills.len() as u32, size - executed)
+        }
+        Err(refusal) => (refusal as u32, 0, 0),
+    }
+}
+
+/// The executions in the first `count` entries of a buffer.
+pub fn read_executions(executions: &[u8], count: u32) -> Vec<Execution> {
+    executions
+        .chunks_exact(EXECUTION_LENGTH)
+        .take(count as usize)
+        .map(|bytes| Execution {
+            number: book::number_at(bytes, 4),
+            price: book::number_at(bytes, 8),
+            shares: book::number_at(bytes, 12),
+        })
+        .collect()
+}
+
+/// The orders that rest after the take, and its executions.
+fn decide(
+    book: &[u8],
+    room: usize,
+    incoming: Option<Incoming>,
+) -> Result<(Vec<Order>, Vec<Execution>), Refusal> {
+    let incoming = incoming.ok_or(Refusal::OutOfRange)?;
+    let orders = book::read(book)?;
+    let fills = fills(&orders, &incoming);
+    if fills.len() * EXECUTION_LENGTH > room {
+        return Err(Refusal::ExecutionsDoNotFit);
+    }
+    Ok((resting(&orders, &fills), fills))
+}
+
+impl Incoming {
+    fn of_numbers(side: u32, limit: u32, size: u32, algorithm: u32) -> Option<Incoming> {
+        let algorithm = match algorithm {
+            1 => Algorithm::PriceTime,
+            2 => Algorithm::ProRata,
+            3 => Algorithm::ProRataWithSetter,
+            _ => return None,
+        };
+        let side = Side::of_number(side)?;
+        let in_range = book::price_in_range(limit) && book::size_in_range(size);
+        in_range.then_some(Incoming {
+            side,
+            limit,
+            size,
+            algorithm,
+        })
+    }
+
+    fn may_trade_with(&self, order: &Order) -> bool {
+        order.side != self.side && self.side.within(self.limit, order.price)
+    }
+}
+
+impl Algorithm {
+    /// The paragraph of the rule in which an order has its turn.
+    fn paragraph(self, order: &Order) -> u32 {
+        let round_lot = order.size >= ROUND_LOT;
+        match (self, order.kind) {
+            (Algorithm::PriceTime, Kind::Displayed) => 2,
+            (Algorithm::PriceTime, _) => 3,
+            (_, Kind::Displayed) if round_lot => 2,
+            (_, Kind::Displayed) => 3,
+            (_, Kind::NonDisplayed) if round_lot => 4,
+            (_, Kind::MinimumQuantity { .. }) => 5,
+            (_, Kind::NonDisplayed) => 6,
+        }
+    }
+
+    /// How the group of a paragraph shares.
+    fn allot(self, paragraph: u32, group: &[Order], shares: u32) -> Allotment {
+        match (self, paragraph) {
+            (Algorithm::PriceTime, _) => sharing::by_time(group, shares),
+            (Algorithm::ProRataWithSetter, 2) => sharing::lot_sharing_with_setter(group, shares),
+            (_, 2 | 4) => sharing::lot_sharing(group, shares),
+            (_, 5) => sharing::smallest_minimum_first(group, shares),
+            _ => sharing::largest_first(group, shares),
+        }
+    }
+}
+
+/// What executes, by price, then paragraph, then rising order number.
+fn fills(orders: &[Order], incoming: &Incoming) -> Vec<Execution> {
+    let mut fills = Vec::new();
+    let mut left = incoming.size;
+    for price in price_levels(orders, incoming) {
+        for paragraph in 2..=6 {
+            let group: Vec<Order> = orders
+                .iter()
+                .filter(|order| incoming.may_trade_with(order) && order.price == price)
+                .filter(|order| incoming.algorithm.paragraph(order) == paragraph)
+                .copied()
+                .collect();
+            let allotment = incoming.algorithm.allot(paragraph, &group, left);
+            for (order, shares) in group.iter().zip(allotment) {
+                left -= shares;
+                if shares > 0 {
+                    fills.push(Execution {
+                        number: order.number,
+                        price,
+                        shares,
+                    });
+                }
+            }
+        }
+    }
+    fills
+}
+
+/// The prices that an incoming order may trade at, the best for it first.
+fn price_levels(orders: &[Order], incoming: &Incoming) -> Vec<u32> {
+    let mut prices: Vec<u32> = orders
+        .iter()
+        .filter(|order| incoming.may_trade_with(order))
+        .map(|order| order.price)
+        .collect();
+    prices.sort_unstable();
+    prices.dedup();
+    if incoming.side == Side::Sell {
+        prices.reverse();
+    }
+    prices
+}
+
+/// The orders that rest after the executions.
+fn resting(orders: &[Order], fills: &[Execution]) -> Vec<Order> {
+    let executed = |order: &Order| {
+        let fill = fills.iter().find(|fill| fill.number == order.number);
+        fill.map_or(0, |fill| fill.shares)
+    };
+    orders
+        .iter()
+        .filter_map(|order| order.less(executed(order)))
+        .collect()
+}
+
+/// Writes the executions from the buffer's start; what lies behind them stays.
+fn write_executions(executions: &mut [u8], fills: &[Execution]) {
+    for (bytes, fill) in executions.chunks_exact_mut(EXECUTION_LENGTH).zip(fills) {
+        bytes[0..2].copy_from_slice(&EXECUTION_MARK);
+        bytes[2..4].fill(0);
+        bytes[4..8].copy_from_slice(&fill.number.to_le_bytes());
+        bytes[8..12].copy_from_slice(&fill.price.to_le_bytes());
+        bytes[12..16].copy_from_slice(&fill.shares.to_le_bytes());
+    }
+}

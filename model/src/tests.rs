@@ -1,0 +1,113 @@
+//! The scope's cases, its refusals in their order, and the readings of the rule
+//! that it rules out.
+
+mod books;
+mod cases;
+mod lines;
+mod readings;
+mod refusals;
+
+use crate::book::{self, Kind, Order, RECORD_LENGTH};
+
+const PRICE: u32 = 100_000;
+const BUY: u32 = 1;
+const SELL: u32 = 2;
+
+/// A market of one book, made by add, with room for executions.
+#[derive(Clone)]
+struct Market {
+    book: Vec<u8>,
+    executions: Vec<u8>,
+}
+
+impl Market {
+    fn new(records: usize) -> Market {
+        Market {
+            book: vec![0; records * RECORD_LENGTH],
+            executions: vec![0xEE; 4_096],
+        }
+    }
+
+    /// Sells at the usual price, numbered from 1, written as "D 600" and
+    /// "M 500/400" with commas between.
+    fn of_sells(sells: &str) -> Market {
+        let mut market = Market::new(8);
+        for (place, sell) in sells.split(", ").enumerate() {
+            market.accept(SELL, place as u32 + 1, PRICE, sell);
+        }
+        market
+    }
+
+    fn add(&mut self, side: u32, number: u32, price: u32, order: &str) -> u32 {
+        let (kind, size, minimum) = described(order);
+        crate::add(&mut self.book, side, kind, number, price, size, minimum)
+    }
+
+    fn accept(&mut self, side: u32, number: u32, price: u32, order: &str) {
+        assert_eq!(self.add(side, number, price, order), 0, "{order}");
+    }
+
+    /// The price and shares of each execution, in order, and the shares left.
+    fn take(
+        &mut self,
+        side: u32,
+        limit: u32,
+        size: u32,
+        algorithm: u32,
+    ) -> (Vec<(u32, u32, u32)>, u32) {
+        let (refusal, count, left) = crate::take(
+            &mut self.book,
+            &mut self.executions,
+            side,
+            limit,
+            size,
+            algorithm,
+        );
+        assert_eq!(refusal, 0);
+        let fills = crate::read_executions(&self.executions, count);
+        let fills = fills
+            .iter()
+            .map(|fill| (fill.number, fill.price, fill.shares));
+        (fills.collect(), left)
+    }
+
+    /// What orders 1, 2 and so on get when a buy at the usual price comes in.
+    fn shares_of_buy(&self, size: u32, algorithm: u32) -> Vec<u32> {
+        let fills = self.clone().take(BUY, PRICE, size, algorithm).0;
+        let shares = |number| {
+            let fill = fills.iter().find(|fill| fill.0 == number);
+            fill.map_or(0, |fill| fill.2)
+        };
+        self.orders()
+            .iter()
+            .map(|order| shares(order.number))
+            .collect()
+    }
+
+    fn orders(&self) -> Vec<Order> {
+        book::read(&self.book).expect("a sound book")
+    }
+
+    /// Size and minimum of an order, 0 for none.
+    fn rests(&self, number: u32) -> (u32, u32) {
+        let orders = self.orders();
+        let order = orders.iter().find(|order| order.number == number);
+        order.map_or((0, 0), |order| match order.kind {
+            Kind::MinimumQuantity { minimum } => (order.size, minimum),
+            _ => (order.size, 0),
+        })
+    }
+}
+
+/// Kind, size and minimum of an order written as in the scope's cases.
+fn described(order: &str) -> (u32, u32, u32) {
+    let (letter, numbers) = order.split_once(' ').expect("a letter and a size");
+    let (size, minimum) = numbers.split_once('/').unwrap_or((numbers, "0"));
+    let kind = match letter {
+        "D" => 1,
+        "H" => 2,
+        _ => 3,
+    };
+    let number = |text: &str| text.parse().expect("a number");
+    (kind, number(size), number(minimum))
+}

@@ -1,0 +1,229 @@
+//! The fast calls against the plain ones on random books: the same numbers, and
+//! the same bytes in both buffers.
+
+use model::book::{self, Order, HIGHEST_PRICE, LARGEST_SIZE, LONGEST_BOOK, RECORD_LENGTH};
+use model::fast;
+use support::Random;
+
+const SEED: u64 = 3307;
+const MOST_ORDERS: usize = LONGEST_BOOK / RECORD_LENGTH;
+
+/// What the orders of a book look like.
+struct Shape {
+    /// How many prices there are, from the lowest on.
+    levels: u32,
+    lowest: u32,
+    /// How often displayed, non-displayed and minimum quantity orders come.
+    kinds: [usize; 3],
+    largest: u32,
+}
+
+impl Shape {
+    fn random(random: &mut Random) -> Shape {
+        let levels = random.one_of(&[1, 1, 2, 5, 300]);
+        Shape {
+            levels,
+            lowest: random.one_of(&[1, 100_000, HIGHEST_PRICE - levels]),
+            kinds: random.one_of(&[[1, 1, 1], [6, 1, 1], [1, 1, 6], [1, 0, 0]]),
+            largest: random.one_of(&[130, 400, 1_000, 1_000, LARGEST_SIZE]),
+        }
+    }
+
+    fn price(&self, random: &mut Random) -> u32 {
+        random.within(self.lowest..=self.lowest + self.levels)
+    }
+
+    fn size(&self, random: &mut Random) -> u32 {
+        let size = random.within(1..=self.largest);
+        let lots = size / 100 * 100;
+        random.one_of(&[size, size, lots.max(1), (lots + 50).min(LARGEST_SIZE)])
+    }
+
+    /// Side, kind, number, price, size and minimum.
+    fn order(&self, random: &mut Random, number: u32) -> [u32; 6] {
+        let side = random.within(1..=2);
+        let kind = random.weighted(&self.kinds) as u32 + 1;
+        let size = self.size(random);
+        let minimum = match kind {
+            3 => random.within(1..=size),
+            _ => 0,
+        };
+        [side, kind, number, self.price(random), size, minimum]
+    }
+
+    /// A sound book, the marks of which may be where add sets none.
+    fn book(&self, random: &mut Random, records: usize, free: usize) -> Vec<u8> {
+        let marks = random.one_of(&[0, 1, 3]);
+        let mut orders: Vec<Order> = Vec::new();
+        let mut number = random.one_of(&[1, 1_000, u32::MAX - 3 * MOST_ORDERS as u32]);
+        for _ in 0..records.saturating_sub(free) {
+            let [side, kind, _, price, size, minimum] = self.order(random, number);
+            let order = Order::of_numbers(side, kind, number, price, size, minimum);
+            let mut order = order.expect("numbers within their ranges");
+            let rival = |other: &Order| {
+                other.setter && (other.side, other.price) == (order.side, order.price)
+            };
+            order.setter =
+                order.is_displayed() && random.once_in(marks) && !orders.iter().any(rival);
+            orders.push(order);
+            number += random.within(1..=3);
+        }
+        let mut book = vec![0; records * RECORD_LENGTH];
+        book::write(&mut book, &orders);
+        book
+    }
+}
+
+/// Spoils a book, most times.
+fn damage(random: &mut Random, book: &mut Vec<u8>) {
+    match random.below(8) {
+        0 => book.resize(book.len() + random.one_of(&[1, 31, 32, 33]), 0),
+        1 => book.resize(LONGEST_BOOK + random.one_of(&[1, 32, 4_096]), 0),
+        2 if book.len() >= 2 * RECORD_LENGTH => {
+            let records = book.len() / RECORD_LENGTH;
+            let (from, to) = (random.below(records), random.below(records));
+            let record = from * RECORD_LENGTH..(from + 1) * RECORD_LENGTH;
+            book.copy_within(record, to * RECORD_LENGTH);
+        }
+        3 => {
+            let records = book.chunks_exact_mut(RECORD_LENGTH);
+            records.for_each(|record| record[20] = u8::from(record[3] == 1));
+        }
+        _ if book.is_empty() => book.push(0),
+        _ => {
+            let place = random.below(book.len());
+            book[place] = random.one_of(&[0, 1, 2, 3, 4, 0x42, 0x4F, 127, 128, 255]);
+        }
+    }
+}
+
+/// A number that is mostly the one given, and seldom one at an edge.
+fn mostly(random: &mut Random, number: u32) -> u32 {
+    let edges = [
+        0,
+        1,
+        4,
+        LARGEST_SIZE + 1,
+        HIGHEST_PRICE,
+        HIGHEST_PRICE + 1,
+        u32::MAX,
+    ];
+    match random.once_in(60) {
+        true => random.one_of(&edges),
+        false => number,
+    }
+}
+
+/// One call by both, on copies of the same bytes. Leaves the book as they do.
+fn agree(random: &mut Random, shape: &Shape, book: &mut Vec<u8>) {
+    let known = book::read(book).unwrap_or_default();
+    let last = known.last().map_or(0, |order| order.number);
+    let any = known.get(random.below(known.len().max(1)));
+    let (number, size) = any.map_or((1, 1), |order| (order.number, order.size));
+    let mut fast_book = book.clone();
+    match random.weighted(&[1, 2, 3, 3, 6]) {
+        0 => assert_eq!(model::check(book), fast::check(book)),
+        1 => {
+            let number = mostly(random, number);
+            assert_eq!(model::find(book, number), fast::find(book, number));
+        }
+        2 => {
+            let order = shape.order(random, last.saturating_add(1));
+            let [side, kind, number, price, size, minimum] = order.map(|n| mostly(random, n));
+            let plain = model::add(book, side, kind, number, price, size, minimum);
+            let fast = fast::add(&mut fast_book, side, kind, number, price, size, minimum);
+            assert_eq!(plain, fast);
+        }
+        3 => {
+            let shares = random.one_of(&[1, size, size / 2 + 1, size + 1]);
+            let (number, shares) = (mostly(random, number), mostly(random, shares));
+            let plain = model::reduce(book, number, shares);
+            assert_eq!(plain, fast::reduce(&mut fast_book, number, shares));
+        }
+        _ => agree_on_take(random, shape, book, &mut fast_book),
+    }
+    assert_eq!(*book, fast_book);
+}
+
+fn agree_on_take(random: &mut Random, shape: &Shape, book: &mut [u8], fast_book: &mut [u8]) {
+    let total: u32 = book::read(book)
+        .unwrap_or_default()
+        .iter()
+        .map(|order| order.size)
+        .sum();
+    let part = random.within(1..=total.clamp(1, LARGEST_SIZE));
+    let size = random.one_of(&[part, part / 2 + 1, part / 8 + 1, shape.largest, 99]);
+    let numbers = [random.within(1..=2), shape.price(random), size];
+    let [side, limit, size] = numbers.map(|number| mostly(random, number));
+    let algorithm = random.within(1..=3);
+    let algorithm = mostly(random, algorithm);
+    let room = random.one_of(&[0, 1, 16, 40, 100, 1_000, 4_096, 5_000]);
+    let mut plain_executions = vec![0xEE; room];
+    let mut fast_executions = plain_executions.clone();
+    let plain = model::take(book, &mut plain_executions, side, limit, size, algorithm);
+    let fast = fast::take(
+        fast_book,
+        &mut fast_executions,
+        side,
+        limit,
+        size,
+        algorithm,
+    );
+    assert_eq!(plain, fast, "{side} {limit} {size} {algorithm}");
+    assert_eq!(plain_executions, fast_executions);
+}
+
+/// So many books of a seed, and a row of calls on each.
+fn agree_on_books(stream: u64, books: u32, spoilt: bool) {
+    let mut random = Random::new(SEED, stream);
+    for _ in 0..books {
+        let shape = Shape::random(&mut random);
+        let records = random.one_of(&[0, 1, 2, 5, 16, 17, 40, 64, 65, 200, MOST_ORDERS]);
+        let free = random.one_of(&[0, 0, 1, records / 2, records]);
+        let mut book = shape.book(&mut random, records, free);
+        if spoilt {
+            damage(&mut random, &mut book);
+        }
+        for _ in 0..6 {
+            agree(&mut random, &shape, &mut book);
+        }
+    }
+}
+
+#[test]
+fn fast_and_plain_agree_on_sound_books() {
+    agree_on_books(1, 6_000, false);
+}
+
+#[test]
+fn fast_and_plain_agree_on_damaged_books() {
+    agree_on_books(2, 6_000, true);
+}
+
+/// A lot sharing of every small size shows each step of the rounding.
+#[test]
+fn fast_and_plain_agree_on_every_size_of_an_incoming_order() {
+    let mut random = Random::new(SEED, 3);
+    for largest in [250, 1_000, LARGEST_SIZE] {
+        let shape = Shape {
+            levels: 1,
+            lowest: 100_000,
+            kinds: [1, 1, 0],
+            largest,
+        };
+        let book = shape.book(&mut random, 24, 0);
+        for size in 1..2_000 {
+            for algorithm in 1..=3 {
+                let mut copies = [book.clone(), book.clone()];
+                let mut executions = [vec![0; 4_096], vec![0; 4_096]];
+                let [plain, fast] = &mut copies;
+                let [first, second] = &mut executions;
+                let plain = model::take(plain, first, 1, 200_000, size, algorithm);
+                let fast = fast::take(fast, second, 1, 200_000, size, algorithm);
+                assert_eq!(plain, fast);
+                assert_eq!(copies[0], copies[1]);
+                assert_eq!(executions[0], executions[1]);
+            }
+        }
+    }
+}

@@ -1,0 +1,156 @@
+//! The five calls as values, and the random making of calls for a book.
+
+use crate::shapes::Shape;
+use model::book::{Order, Side, HIGHEST_PRICE, LARGEST_SIZE};
+use support::Random;
+
+#[derive(Clone, Copy, Debug, PartialEq, Eq)]
+pub enum Call {
+    Check,
+    /// Order number.
+    Find([u32; 1]),
+    /// Side, kind, order number, price, size and minimum.
+    Add([u32; 6]),
+    /// Order number and shares.
+    Reduce([u32; 2]),
+    /// Side, limit price, size and algorithm.
+    Take([u32; 4]),
+}
+
+impl Call {
+    pub fn name(&self) -> &'static str {
+        match self {
+            Call::Check => "check",
+            Call::Find(_) => "find",
+            Call::Add(_) => "add",
+            Call::Reduce(_) => "reduce",
+            Call::Take(_) => "take",
+        }
+    }
+
+    fn numbers(&mut self) -> &mut [u32] {
+        match self {
+            Call::Check => &mut [],
+            Call::Find(numbers) => numbers,
+            Call::Add(numbers) => numbers,
+            Call::Reduce(numbers) => numbers,
+            Call::Take(numbers) => numbers,
+        }
+    }
+}
+
+/// Which calls are made, and how.
+pub struct Caller {
+    /// How often check, find, add, reduce and take come.
+    pub mix: [usize; 5],
+    /// One in so many calls has a wrong number.
+    pub wrong: usize,
+    /// How often each algorithm comes.
+    pub algorithms: [usize; 3],
+}
+
+impl Caller {
+    /// A call on a book that has these orders.
+    pub fn call(&self, random: &mut Random, shape: &Shape, orders: &[Order]) -> Call {
+        let mut call = match random.weighted(&self.mix) {
+            0 => Call::Check,
+            1 => Call::Find([number_near(random, orders)]),
+            2 => add(random, shape, orders),
+            3 => reduce(random, shape, orders),
+            _ => self.take(random, shape, orders),
+        };
+        if random.once_in(self.wrong) {
+            spoil(random, call.numbers());
+        }
+        call
+    }
+
+    fn take(&self, random: &mut Random, shape: &Shape, orders: &[Order]) -> Call {
+        let rival = (!orders.is_empty()).then(|| orders[random.below(orders.len())]);
+        let (side, limit) = side_and_limit(random, shape, rival);
+        let opposite = orders
+            .iter()
+            .filter(|order| order.side != side && side.within(limit, order.price));
+        let total: u64 = opposite.map(|order| u64::from(order.size)).sum();
+        let total = total.clamp(1, u64::from(LARGEST_SIZE)) as u32;
+        let size = match random.below(12) {
+            0 | 1 => random.within(1..=120),
+            2 | 3 => shape.size(random),
+            4 => total,
+            5 => (total + 1).min(LARGEST_SIZE),
+            6 => LARGEST_SIZE,
+            7 => random.within(total.div_ceil(2)..=total),
+            8 => random.within(1..=total.div_ceil(100)) * 100 % LARGEST_SIZE,
+            _ => random.within(1..=total),
+        };
+        let algorithm = random.weighted(&self.algorithms) as u32 + 1;
+        Call::Take([side as u32, limit, size, algorithm])
+    }
+}
+
+/// The number of an order, or often one beside it.
+fn number_near(random: &mut Random, orders: &[Order]) -> u32 {
+    if orders.is_empty() {
+        return random.within(1..=u32::MAX);
+    }
+    let number = orders[random.below(orders.len())].number;
+    match random.below(8) {
+        0 => number.saturating_add(1),
+        1 => number.saturating_sub(1).max(1),
+        _ => number,
+    }
+}
+
+fn add(random: &mut Random, shape: &Shape, orders: &[Order]) -> Call {
+    let last = orders.last().map_or(0, |order| order.number);
+    let number = match random.below(16) {
+        0 => last.max(1),
+        1 => number_near(random, orders),
+        2 => last.saturating_add(random.within(1..=1_000)),
+        _ => last.saturating_add(1),
+    };
+    Call::Add(shape.order(random, number))
+}
+
+fn reduce(random: &mut Random, shape: &Shape, orders: &[Order]) -> Call {
+    let number = number_near(random, orders);
+    let found = orders.iter().find(|order| order.number == number);
+    let size = found.map_or(100, |order| order.size);
+    let shares = match random.below(8) {
+        0 => (size + 1).min(LARGEST_SIZE),
+        1 => shape.size(random),
+        2 | 3 => size,
+        _ => random.within(1..=size),
+    };
+    Call::Reduce([number, shares])
+}
+
+/// The side and limit price of an incoming order that is mostly to meet a given
+/// one: its price, one beside it, one of the shape's, or one that lets all trade.
+fn side_and_limit(random: &mut Random, shape: &Shape, rival: Option<Order>) -> (Side, u32) {
+    let price = rival.map_or_else(|| shape.price(random), |order| order.price);
+    let side = match rival {
+        Some(order) if order.side == Side::Sell => Side::Buy,
+        Some(_) => Side::Sell,
+        None => random.one_of(&[Side::Buy, Side::Sell]),
+    };
+    let limit = match (random.below(6), side) {
+        (0, _) => price.saturating_sub(1).max(1),
+        (1, _) => (price + 1).min(HIGHEST_PRICE),
+        (2, _) => shape.price(random),
+        (3, Side::Buy) => HIGHEST_PRICE,
+        (3, Side::Sell) => 1,
+        _ => price,
+    };
+    (side, limit)
+}
+
+/// Makes one of the numbers a wrong one, or at least another.
+fn spoil(random: &mut Random, numbers: &mut [u32]) {
+    if !numbers.is_empty() {
+        let place = random.below(numbers.len());
+        let any = random.draw() as u32;
+        let wrong = [0, 3, 4, LARGEST_SIZE + 1, HIGHEST_PRICE + 1, u32::MAX, any];
+        numbers[place] = random.one_of(&wrong);
+    }
+}

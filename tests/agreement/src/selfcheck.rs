@@ -1,0 +1,123 @@
+//! Checks of the test itself: that a touched byte is fatal, and that a
+//! difference is seen.
+
+use crate::calls::Call;
+use crate::compare::{self, Borrower, Entry, Lending, Outcome};
+use crate::guarded::{self, Edge, Lender};
+use std::os::unix::process::ExitStatusExt;
+use std::process::Command;
+use support::Report;
+
+/// The argument that makes the program a child that touches a byte.
+pub const TOUCH: &str = "touch";
+
+const SIGSEGV: i32 = 11;
+/// Lengths of the buffers beside which a byte is touched; the last is two whole
+/// pages.
+const LENGTHS: [usize; 4] = [0, 1, 100, 8_192];
+
+/// Touches a byte that may not be touched, which should be the end.
+pub fn touch(what: &str, length: usize) {
+    guarded::report_touches();
+    let mut lender = Lender::new();
+    let bytes = vec![0; length];
+    match what {
+        "behind" => lender.lend(&bytes, Edge::End).touch(length as isize),
+        "before" => lender.lend(&bytes, Edge::Start).touch(-1),
+        "read-only" => lender.lend(&bytes, Edge::End).write_read_only(),
+        _ => lender.lend(&bytes, Edge::End).touch(length as isize - 1),
+    }
+}
+
+/// Whether a child that touches a byte ends as it should.
+fn touch_ends(what: &str, length: usize, fatal: bool) -> Result<(), String> {
+    let program = std::env::current_exe().map_err(|error| error.to_string())?;
+    let child = Command::new(program)
+        .args([TOUCH, what, &length.to_string()])
+        .output()
+        .map_err(|error| error.to_string())?;
+    let reported = String::from_utf8_lossy(&child.stderr).contains("FAILED");
+    let died = child.status.signal() == Some(SIGSEGV);
+    let lived = child.status.success();
+    let as_it_should = if fatal {
+        died && reported
+    } else {
+        lived && !reported
+    };
+    as_it_should
+        .then_some(())
+        .ok_or(format!("{what} {length}: {}", child.status))
+}
+
+/// Whether a write beside a buffer, in a page that it doesn't fill, is seen.
+fn margin_is_watched() -> Result<(), String> {
+    let mut lender = Lender::new();
+    for (edge, distance) in [(Edge::End, -1), (Edge::Start, 100)] {
+        let mut loan = lender.lend(&[0; 100], edge);
+        loan.touch(0);
+        let whole = loan.margin_is_whole();
+        loan.touch(distance);
+        if !whole || loan.margin_is_whole() {
+            return Err(format!("{edge:?}: byte {distance}"));
+        }
+    }
+    Ok(())
+}
+
+/// A take that executes, and so has an answer of each sort.
+fn sample() -> Entry {
+    let mut book = vec![0; 96];
+    for (number, size) in [(1, 600), (2, 400), (3, 300)] {
+        model::add(&mut book, 2, 1, number, 100_000, size, 0);
+    }
+    Entry {
+        call: Call::Take([1, 100_000, 1_200, 2]),
+        book,
+        executions: vec![0x5A; 64],
+    }
+}
+
+/// Whether the comparison sees that the model's outcome has been altered.
+fn sees(borrower: &mut Borrower, alter: impl Fn(&mut Outcome)) -> Result<(), String> {
+    let entry = sample();
+    let lending = Lending {
+        twice: true,
+        read_only: false,
+    };
+    let library = borrower.agreed(&entry, lending)?;
+    let mut altered = compare::by_model(&entry);
+    alter(&mut altered);
+    match compare::compare(&entry, &altered, &library) {
+        Err(_) => Ok(()),
+        Ok(()) => Err(String::from("an altered outcome was taken for the same")),
+    }
+}
+
+pub fn run(report: &mut Report, borrower: &mut Borrower) {
+    let each = |what: &str, lengths: &[usize], fatal: bool| {
+        let mut lengths = lengths.iter();
+        lengths.try_for_each(|&length| touch_ends(what, length, fatal))
+    };
+    let behind = each("behind", &LENGTHS, true);
+    report.check("a touch behind a buffer is fatal", behind);
+    let before = each("before", &LENGTHS, true);
+    report.check("a touch before a buffer is fatal", before);
+    let write = each("read-only", &LENGTHS[1..], true);
+    report.check("a write into a read-only buffer is fatal", write);
+    let inside = each("inside", &LENGTHS[1..], false);
+    report.check("a touch inside a buffer is not", inside);
+    report.check("a write beside a buffer is seen", margin_is_watched());
+    for place in 0..3 {
+        let name = format!("an altered number {place} of an answer is seen");
+        report.check(&name, sees(borrower, |outcome| outcome.numbers[place] ^= 1));
+    }
+    for place in [0, 95] {
+        let name = format!("an altered byte {place} of the book is seen");
+        report.check(&name, sees(borrower, |outcome| outcome.book[place] ^= 1));
+    }
+    for place in [0, 47, 63] {
+        let name = format!("an altered byte {place} of the executions is seen");
+        let outcome = sees(borrower, |outcome| outcome.executions[place] ^= 1);
+        report.check(&name, outcome);
+    }
+}

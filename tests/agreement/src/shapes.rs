@@ -1,0 +1,130 @@
+//! What the orders of random books look like, and the making of sound books.
+
+use model::book::{self, Order, Side, HIGHEST_PRICE, LARGEST_SIZE, RECORD_LENGTH};
+use support::Random;
+
+#[derive(Clone, Copy)]
+pub enum Sizes {
+    /// 99, 100, 101, 150 and the like.
+    AroundLots,
+    /// Up to a little more than a round lot.
+    OddLots,
+    /// Up to the largest size.
+    Large,
+}
+
+/// What the orders of a book look like.
+#[derive(Clone, Copy)]
+pub struct Shape {
+    /// How many prices a side has.
+    pub levels: u32,
+    pub sizes: Sizes,
+    /// How often displayed, non-displayed and minimum quantity orders come.
+    pub kinds: [usize; 3],
+    /// Whether buys and sells have the same prices, or meet at one at most.
+    pub overlap: bool,
+    /// The lowest price of a buy, and the distance of two prices.
+    pub lowest: u32,
+    pub step: u32,
+}
+
+impl Shape {
+    /// A shape of these kinds, the rest by chance.
+    pub fn random(random: &mut Random, kinds: [usize; 3]) -> Shape {
+        let levels = random.one_of(&[1, 1, 2, 3, 5, 40, 600]);
+        let step = random.one_of(&[1, 100, 256]);
+        let highest = HIGHEST_PRICE - 2 * levels * step;
+        Shape {
+            levels,
+            sizes: random.one_of(&[
+                Sizes::AroundLots,
+                Sizes::AroundLots,
+                Sizes::AroundLots,
+                Sizes::OddLots,
+                Sizes::Large,
+            ]),
+            kinds,
+            overlap: random.once_in(3),
+            lowest: random.one_of(&[1, 100_000, highest]),
+            step,
+        }
+    }
+
+    pub fn price(&self, random: &mut Random) -> u32 {
+        self.lowest + self.step * random.within(0..=2 * self.levels - 2)
+    }
+
+    fn price_of_side(&self, random: &mut Random, side: Side) -> u32 {
+        let level = random.within(0..=self.levels - 1);
+        match side {
+            Side::Sell if !self.overlap => self.lowest + self.step * (self.levels - 1 + level),
+            _ => self.lowest + self.step * level,
+        }
+    }
+
+    pub fn size(&self, random: &mut Random) -> u32 {
+        match self.sizes {
+            Sizes::AroundLots => {
+                let lots = random.one_of(&[1, 1, 2, 2, 3, 4, 5, 10]);
+                100 * lots - 50 + random.one_of(&[0, 49, 50, 50, 51, 99, 100, 101])
+            }
+            Sizes::OddLots => random.within(1..=130),
+            Sizes::Large => {
+                random.one_of(&[LARGEST_SIZE, LARGEST_SIZE - 1, 500_000, 100_050])
+                    - random.within(0..=1_000) * random.within(0..=1)
+            }
+        }
+    }
+
+    /// Side, kind, number, price, size and minimum of an order, as add takes
+    /// them.
+    pub fn order(&self, random: &mut Random, number: u32) -> [u32; 6] {
+        let side = random.one_of(&[Side::Buy, Side::Sell]);
+        let kind = random.weighted(&self.kinds) as u32 + 1;
+        let price = self.price_of_side(random, side);
+        let size = self.size(random);
+        let any = random.within(1..=size);
+        let minimum = match kind {
+            3 => random.one_of(&[1, size, 100.min(size), 200.min(size), any, any]),
+            _ => 0,
+        };
+        [side as u32, kind, number, price, size, minimum]
+    }
+
+    /// A sound book of so many records, so many of them orders, written record
+    /// by record: sides may overlap, and marks may be where add sets none.
+    pub fn built_book(&self, random: &mut Random, records: usize, orders: usize) -> Vec<u8> {
+        let first = random.one_of(&[1, 1_000, u32::MAX - 3 * 256]);
+        let marks = random.one_of(&[0, 1, 2, 5]);
+        let mut placed: Vec<Order> = Vec::new();
+        let mut next = first;
+        for _ in 0..orders {
+            let [side, kind, number, price, size, minimum] = self.order(random, next);
+            let mut order = Order::of_numbers(side, kind, number, price, size, minimum)
+                .expect("numbers within their ranges");
+            order.setter = order.is_displayed()
+                && random.once_in(marks)
+                && !placed.iter().any(|other| is_rival_setter(other, &order));
+            placed.push(order);
+            next += random.within(1..=3);
+        }
+        let mut book = vec![0; records * RECORD_LENGTH];
+        book::write(&mut book, &placed);
+        book
+    }
+
+    /// A book of so many records after so many tries to add an order.
+    pub fn grown_book(&self, random: &mut Random, records: usize, tries: usize) -> Vec<u8> {
+        let mut book = vec![0; records * RECORD_LENGTH];
+        for number in 1..=tries as u32 {
+            let [side, kind, number, price, size, minimum] = self.order(random, number);
+            model::add(&mut book, side, kind, number, price, size, minimum);
+        }
+        book
+    }
+}
+
+/// Whether a marked order has the side and price of another.
+fn is_rival_setter(marked: &Order, order: &Order) -> bool {
+    marked.setter && marked.side == order.side && marked.price == order.price
+}

@@ -1,0 +1,94 @@
+//! The library's C functions, on slices. Each gives the numbers of the answer:
+//! the refusal number, and its other numbers or 0.
+
+pub type Numbers = [usize; 3];
+
+#[repr(C)]
+struct Checked {
+    refusal: u32,
+    orders: u32,
+}
+
+#[repr(C)]
+struct Found {
+    refusal: u32,
+    start: usize,
+    length: usize,
+}
+
+#[repr(C)]
+struct Taken {
+    refusal: u32,
+    count: u32,
+    left: u32,
+}
+
+extern "C" {
+    fn ruhvasto_check(book: *const u8, book_len: usize) -> Checked;
+    fn ruhvasto_find(book: *const u8, book_len: usize, number: u32) -> Found;
+    fn ruhvasto_add(
+        book: *mut u8,
+        book_len: usize,
+        side: u32,
+        kind: u32,
+        number: u32,
+        price: u32,
+        size: u32,
+        minimum: u32,
+    ) -> u32;
+    fn ruhvasto_reduce(book: *mut u8, book_len: usize, number: u32, shares: u32) -> u32;
+    fn ruhvasto_take(
+        book: *mut u8,
+        book_len: usize,
+        executions: *mut u8,
+        executions_len: usize,
+        side: u32,
+        limit: u32,
+        size: u32,
+        algorithm: u32,
+    ) -> Taken;
+}
+
+#[inline]
+pub fn check(book: &[u8]) -> Numbers {
+    // Safety: the slice is as many bytes as said, and is only read.
+    let checked = unsafe { ruhvasto_check(book.as_ptr(), book.len()) };
+    [checked.refusal as usize, checked.orders as usize, 0]
+}
+
+#[inline]
+pub fn find(book: &[u8], number: u32) -> Numbers {
+    // Safety: as above.
+    let found = unsafe { ruhvasto_find(book.as_ptr(), book.len(), number) };
+    [found.refusal as usize, found.start, found.length]
+}
+
+#[inline]
+pub fn add(book: &mut [u8], numbers: [u32; 6]) -> Numbers {
+    let [side, kind, number, price, size, minimum] = numbers;
+    let (start, length) = (book.as_mut_ptr(), book.len());
+    // Safety: the slice is as many bytes as said, and nobody else's meanwhile.
+    let refusal = unsafe { ruhvasto_add(start, length, side, kind, number, price, size, minimum) };
+    [refusal as usize, 0, 0]
+}
+
+#[inline]
+pub fn reduce(book: &mut [u8], number: u32, shares: u32) -> Numbers {
+    // Safety: as above.
+    let refusal = unsafe { ruhvasto_reduce(book.as_mut_ptr(), book.len(), number, shares) };
+    [refusal as usize, 0, 0]
+}
+
+#[inline]
+pub fn take(book: &mut [u8], executions: &mut [u8], numbers: [u32; 4]) -> Numbers {
+    let [side, limit, size, algorithm] = numbers;
+    let (start, length) = (book.as_mut_ptr(), book.len());
+    let (second, room) = (executions.as_mut_ptr(), executions.len());
+    // Safety: as above, for both slices; they don't overlap.
+    let taken = unsafe { ruhvasto_take(start, length, second, room, side, limit, size, algorithm) };
+    [
+        taken.refusal as usize,
+        taken.count as usize,
+        taken.left as usize,
+    ]
+}
