@@ -1,0 +1,75 @@
+// A desk that a fillsheet's commands are given to: a book, a buffer for executions, and an algorithm.
+use script::command::Command;
+ghost use mathlib.Core.Path.{_≡_};
+ghost use Rattle.desk.specs.Desk.{refusedOr, performed};
+
+// What a command answers: nothing, its refusal, or how many executions a take wrote and the shares left.
+pub enum Answer {
+    Silent,
+    Refused(u32),
+    Listed { count: u32, left: u32 },
+}
+
+// The answer, and the algorithm from here on.
+pub struct Performance {
+    pub answer: Answer,
+    pub algorithm: u32,
+}
+
+// The answer, unless the command was refused.
+fn refused_or(refusal: u32, answer: Answer) -> Answer
+    ensures { λ r. ⌜ r ≡ refusedOr refusal answer ⌝ }
+{
+    if refusal == 0 {
+        answer
+    } else {
+        Answer::Refused(refusal)
+    }
+}
+
+// A command is given to the desk.
+pub fn perform(
+    command: Command,
+    book: &mut [u8],
+    executions: &mut [u8],
+    algorithm: u32,
+) -> Performance
+    ensures { λ r. ⌜ record { answer = r .answer; desk = record { book = now (book .exit); executions = now (executions .exit); algorithm = r .algorithm } } ≡ performed command (record { book = now (book .entry); executions = now (executions .entry); algorithm = algorithm }) ⌝ }
+{
+    match command {
+        Command::Choose(chosen) => Performance {
+            answer: Answer::Silent,
+            algorithm: chosen,
+        },
+        Command::Add {
+            side,
+            kind,
+            number,
+            price,
+            size,
+            minimum,
+        } => {
+            let refusal = entry::add(book, side, kind, number, price, size, minimum);
+            let answer = refused_or(refusal, Answer::Silent);
+            Performance { answer, algorithm }
+        }
+        Command::Reduce { number, shares } => {
+            let refusal = entry::reduce(book, number, shares);
+            let answer = refused_or(refusal, Answer::Silent);
+            Performance { answer, algorithm }
+        }
+        Command::Take { side, limit, size } => {
+            let taken = take::take(book, executions, side, limit, size, algorithm);
+            let listed = Answer::Listed {
+                count: taken.count,
+                left: taken.left,
+            };
+            let answer = refused_or(taken.refusal, listed);
+            Performance { answer, algorithm }
+        }
+        Command::Nothing => Performance {
+            answer: Answer::Refused(1),
+            algorithm,
+        },
+    }
+}

@@ -1,0 +1,4 @@
+pub mod Text
+pub mod Field
+pub mod Command
+pub mod Examples
