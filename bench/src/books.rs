@@ -1,0 +1,157 @@
+//! The books that are timed. All orders are sells, numbered from 1.
+
+use model::book::{self, Kind, Order, Side, RECORD_LENGTH};
+
+/// The best price. Others are a cent each above it.
+pub const BEST_PRICE: u32 = 100_000;
+const CENT: u32 = 100;
+
+/// A price so many cents above the best.
+pub fn price(cents: u32) -> u32 {
+    BEST_PRICE + cents * CENT
+}
+
+/// Sizes of one to eleven round lots and odd shares, in no order.
+pub fn mixed_size(place: u32) -> u32 {
+    100 + place * 7_919 % 1_009
+}
+
+/// A place of its own for each below the count, in no order. The count is a
+/// power of 2.
+pub fn scattered(place: u32, count: u32) -> u32 {
+    place * (count * 5 / 8 + 1) % count
+}
+
+fn sell(place: u32, kind: Kind, price: u32, size: u32) -> Order {
+    Order {
+        side: Side::Sell,
+        kind,
+        number: place + 1,
+        price,
+        size,
+        setter: false,
+    }
+}
+
+/// Displayed sells of mixed sizes, at one price or each at a price of its own.
+pub fn displayed(count: u32, many_prices: bool) -> Vec<Order> {
+    let cents = |place| match many_prices {
+        true => scattered(place, count),
+        false => 0,
+    };
+    (0..count)
+        .map(|place| {
+            sell(
+                place,
+                Kind::Displayed,
+                price(cents(place)),
+                mixed_size(place),
+            )
+        })
+        .collect()
+}
+
+/// Displayed sells, each better priced than those before it.
+pub fn improving(count: u32) -> Vec<Order> {
+    (0..count)
+        .map(|place| {
+            sell(
+                place,
+                Kind::Displayed,
+                price(count - 1 - place),
+                mixed_size(place),
+            )
+        })
+        .collect()
+}
+
+/// Minimum quantity sells of 1,000 shares, at one price or each at its own. The
+/// minimums are 200 to 999.
+pub fn minimums(count: u32, many_prices: bool) -> Vec<Order> {
+    displayed(count, many_prices)
+        .into_iter()
+        .map(|order| {
+            let minimum = 200 + order.number * 7_919 % 800;
+            sell(
+                order.number - 1,
+                Kind::MinimumQuantity { minimum },
+                order.price,
+                1_000,
+            )
+        })
+        .collect()
+}
+
+/// At each price a minimum quantity sell of 10 shares, and one that could trade
+/// all that reaches the price, and no less: the first is filled, and the second
+/// is then passed over.
+pub fn half_met(prices: u32, incoming: u32) -> Vec<Order> {
+    let met = Kind::MinimumQuantity { minimum: 1 };
+    (0..prices)
+        .flat_map(|level| {
+            let minimum = incoming - 10 * level;
+            let passed_over = Kind::MinimumQuantity { minimum };
+            [
+                sell(2 * level, met, price(level), 10),
+                sell(2 * level + 1, passed_over, price(level), incoming),
+            ]
+        })
+        .collect()
+}
+
+/// At each price an order in every paragraph of the pro rata algorithm.
+pub fn every_paragraph(prices: u32) -> Vec<Order> {
+    let minimum = Kind::MinimumQuantity { minimum: 50 };
+    let five = [
+        (Kind::NonDisplayed, 60),
+        (minimum, 300),
+        (Kind::NonDisplayed, 500),
+        (Kind::Displayed, 70),
+        (Kind::Displayed, 400),
+    ];
+    (0..5 * prices)
+        .map(|place| {
+            let (kind, size) = five[(place / prices) as usize];
+            sell(place, kind, price(place * 31 % prices), size)
+        })
+        .collect()
+}
+
+/// The bytes of a book with room for so many orders, entered one by one.
+pub fn entered(orders: &[Order], records: u32) -> Vec<u8> {
+    let mut book = vec![0; records as usize * RECORD_LENGTH];
+    for order in orders {
+        let minimum = match order.kind {
+            Kind::MinimumQuantity { minimum } => minimum,
+            _ => 0,
+        };
+        let kind = u32::from(order.record()[3]);
+        let side = order.side as u32;
+        let refusal = model::add(
+            &mut book,
+            side,
+            kind,
+            order.number,
+            order.price,
+            order.size,
+            minimum,
+        );
+        assert_eq!(refusal, 0, "the orders of a case can all be entered");
+    }
+    book
+}
+
+/// The bytes of a full book of orders that all have the setter mark.
+pub fn marked(orders: &[Order]) -> Vec<u8> {
+    let marked = orders.iter().map(|order| Order {
+        setter: true,
+        ..*order
+    });
+    let mut book = vec![0; orders.len() * RECORD_LENGTH];
+    book::write(&mut book, &marked.collect::<Vec<Order>>());
+    book
+}
+
+pub fn total(orders: &[Order]) -> u32 {
+    orders.iter().map(|order| order.size).sum()
+}
