@@ -1,4 +1,6 @@
 // The cases of the scope, run on lent bytes.
+mod report;
+
 fn add(book: &mut [u8], side: u32, kind: u32, order: u32, price: u32, size: u32, minimum: u32) {
     let refusal = entry::add(book, side, kind, order, price, size, minimum);
     report::text(b"add");

@@ -1,10 +1,10 @@
--- `report::digest_of` is safe and ends: the number stays below its modulus, and each turn has one byte less to read.
+-- `cases::report::digest_of` is safe and ends: the number stays below its modulus, and each turn has one byte less to read.
 use Prim.Native.Nat.{_-_, _<_}
 use native.Mathlib.Omega.{arith}
 use borrow.Author.Needs.{needs}
 use lib.ListN.{length}
-use Rattle.report.proofs.digest_of.Statement.{statement}
-use Rattle.report.proofs.digest_of.Tie as tie
+use Rattle.cases.proofs.report.digest_of.Statement.{statement}
+use Rattle.cases.proofs.report.digest_of.Tie as tie
 
 abbrev Inv-loop : tie.InvT-loop
 Inv-loop buffer sum₀ i₀ sum i = sum < 65521

@@ -8,12 +8,12 @@ use record::execution::EXECUTION_BYTES;
 ghost use Prim.Native.Nat.{_+_, _≤_};
 ghost use lib.ListN.{length};
 
-pub fn text(words: &[u8]) {
+pub(crate) fn text(words: &[u8]) {
     io::write_all(STDOUT_FILENO, words);
 }
 
 // A number, with a space in front.
-pub fn number(n: u32) {
+pub(crate) fn number(n: u32) {
     text(b" ");
     io::print_decimal(STDOUT_FILENO, n as u64);
 }
@@ -44,7 +44,7 @@ fn digest(buffer: &[u8]) {
 }
 
 // The numbers that a take is given.
-pub fn call(side: u32, limit: u32, size: u32, algorithm: u32) {
+pub(crate) fn call(side: u32, limit: u32, size: u32, algorithm: u32) {
     text(b"take side");
     number(side);
     text(b" limit");
@@ -78,7 +78,7 @@ fn executions(buffer: &[u8], count: u32) {
 }
 
 // What a take answered, and the executions that it left in the buffer.
-pub fn answer(taken: Taken, buffer: &[u8]) {
+pub(crate) fn answer(taken: Taken, buffer: &[u8]) {
     text(b"refusal");
     number(taken.refusal);
     text(b" count");
@@ -115,7 +115,7 @@ fn orders(book: &[u8], count: u32) {
 }
 
 // What check says of a book, and its orders.
-pub fn book(book: &[u8]) {
+pub(crate) fn book(book: &[u8]) {
     let checked = lookup::check(book);
     text(b"check");
     number(checked.refusal);
