@@ -1,23 +1,55 @@
--- Fields put one behind the other.
+-- Texts put into a buffer one behind the other, and the fields of a line.
 use Prim.Native.Nat.{ℕ, _+_, _-_, _≤_, _<_}
-use mathlib.Core.Path.{_≡_, sym, ap, _∙_}
+use mathlib.Core.Path.{_≡_, sym, ap, ap₂, _∙_}
 use mathlib.Core.List.{List, _++_, append-assoc}
 use native.Mathlib.Omega.{arith}
-use lib.ListN.{length, take, drop, length-drop}
-use lib.Seq.{take-all, drop-drop}
+use lib.ListN.{length, take, drop, length-append, length-drop}
+use lib.Seq.{take-all, length-take-le, drop-drop, drop-append-add}
 use Rattle.record.specs.Codec.{fromBytes, replaced, decode}
 use Rattle.record.specs.Execution.{executionOf, decodeExecution}
 use Rattle.record.proofs.Pasting.{take-replaced}
-use Rattle.listing.specs.Listing.{field, executionLine}
+use Rattle.listing.specs.Listing.{Placed, field, executionLine}
 
--- what a buffer has in front once a field is put into it
-pub field-put : (at start m n end : ℕ) (bytes out after : List ℕ) → start < 10 → length bytes ≡ 11 → drop start bytes ≡ field n end
-    → at + 11 ≤ length out → m ≡ 11 - start → after ≡ replaced at (take m (drop start bytes)) out
-    → take (at + (11 - start)) after ≡ take at out ++ field n end
-field-put at start m n end bytes out after h l f r e p =
+-- bytes put behind others that were put in are put in with them
+module _ (at : ℕ) (a b s : List ℕ) (h : at + length a + length b ≤ length s) where
+  -- what stands behind both
+  abbrev rest : List ℕ
+  rest = drop (at + length a + length b) s
+
+  behind-both : drop (at + length a + length b) (replaced at a s) ≡ rest
+  behind-both =
+      let x = take at s ++ a in
+      let y = drop (at + length a) s in
+      let n : at + length a + length b ≡ length x + length b = omega (arith, length-append (take at s) a, length-take-le at s (omega arith)) in
+      ap₂ drop n (sym (append-assoc (take at s) a y)) ∙ drop-append-add x y (length b) ∙ drop-drop (length b) (at + length a) s
+
+  joined : replaced (at + length a) b (replaced at a s) ≡ replaced at (a ++ b) s
+  joined =
+      let e : at + length a + length b ≡ at + length (a ++ b) = omega (arith, length-append a b) in
+      ap₂ (λ u v. u ++ (b ++ v)) (take-replaced at a s (omega arith)) behind-both
+      ∙ append-assoc (take at s) a (b ++ rest)
+      ∙ ap (λ t. take at s ++ t) (sym (append-assoc a b rest) ∙ ap (λ j. (a ++ b) ++ drop j s) e)
+
+-- a text behind another
+pub placed-behind : {a b s m x : List ℕ} {r q : ℕ} → length a + length b ≤ length s → Placed 0 a s m r → Placed r b m x q → Placed 0 (a ++ b) s x q
+placed-behind {a} {b} {s} h p w = record {
+  ends = omega (arith, p .ends, w .ends, length-append a b);
+  bytes = w .bytes ∙ ap₂ (λ k t. replaced k b t) (p .ends) (p .bytes) ∙ joined 0 a b s (omega arith);
+}
+
+-- the same text, said another way
+pub placed-as : {at : ℕ} {a b s x : List ℕ} {r : ℕ} → a ≡ b → Placed at a s x r → Placed at b s x r
+placed-as e p = rw e at p
+
+-- a field, as it stands at the end of an array
+pub field-placed : (at start m n end : ℕ) (bytes out after : List ℕ) → start < 10 → length bytes ≡ 11 → drop start bytes ≡ field n end
+    → m ≡ 11 - start → after ≡ replaced at (take m (drop start bytes)) out → Placed at (field n end) out after (at + (11 - start))
+field-placed at start m n end bytes out after h l f e p =
     let w : take m (drop start bytes) ≡ drop start bytes = take-all m (drop start bytes) (omega (arith, length-drop start bytes)) in
-    let k : 11 - start ≡ length (drop start bytes) = omega (arith, length-drop start bytes) in
-    rw (p, w, k) (take-replaced at (drop start bytes) out (omega (arith, length-drop start bytes)) ∙ ap (λ t. take at out ++ t) f)
+    record {
+      ends = omega (arith, ap length f, length-drop start bytes);
+      bytes = p ∙ ap (λ t. replaced at t out) (w ∙ f);
+    }
 
 -- the numbers of an execution stand at its bytes 4, 8 and 12
 line-of : (s : List ℕ) (at : ℕ)
@@ -31,18 +63,8 @@ line-of s at =
     let twelve : at + 8 + 4 ≡ at + 12 = omega arith in
     rw (drop-drop 2 at s, drop-drop 1 (at + 2) s, drop-drop 1 (at + 2 + 1) s, four, drop-drop 4 (at + 4) s, eight, drop-drop 4 (at + 8) s, twelve)
 
--- a line of three fields, put one behind the other, is that of the execution whose numbers they are
-pub line-put : (s out one two three : List ℕ) (at a b c n p q : ℕ)
+-- the fields of an execution's numbers are its line
+pub fields-line : (s : List ℕ) (at n p q : ℕ)
     → n ≡ fromBytes (take 4 (drop (at + 4) s)) → p ≡ fromBytes (take 4 (drop (at + 8) s)) → q ≡ fromBytes (take 4 (drop (at + 12) s))
-    → take a one ≡ take 0 out ++ field n 32 → take b two ≡ take a one ++ field p 32 → take c three ≡ take b two ++ field q 10
-    → take c three ≡ executionLine (decodeExecution (drop at s))
-line-put s out one two three at a b c n p q en ep eq x y z =
-    rw (z, y, x, append-assoc (field n 32) (field p 32) (field q 10), en, ep, eq) (sym (line-of s at))
-
--- a field behind the words that a line begins with
-pub words-field : (r n end : ℕ) (words out begun after : List ℕ) → length words ≤ length out → begun ≡ replaced 0 words out
-    → take r after ≡ take (length words) begun ++ field n end → take r after ≡ words ++ field n end
-words-field r n end words out begun after h e f =
-    let z : 0 + length words ≡ length words = omega arith in
-    let w : take (length words) begun ≡ words = rw (e, z) (rw z at (take-replaced 0 words out (omega arith))) in
-    f ∙ ap (λ t. t ++ field n end) w
+    → (field n 32 ++ field p 32) ++ field q 10 ≡ executionLine (decodeExecution (drop at s))
+fields-line s at n p q en ep eq = append-assoc (field n 32) (field p 32) (field q 10) ∙ rw (en, ep, eq) (sym (line-of s at))

@@ -1,9 +1,17 @@
 -- The lines that a fillsheet writes.
 use Prim.Native.Nat.{ℕ, zero, suc, _+_, _/_, _%_}
+use mathlib.Core.Path.{_≡_}
 use mathlib.Core.Bool.{cond}
 use mathlib.Core.List.{List, [], _∷_, _++_}
 use lib.Dec.{leb}
+use lib.ListN.{length}
+use Rattle.record.specs.Codec.{replaced}
 use Rattle.record.specs.declared.execution.Execution.{Execution}
+
+-- a text was put into a buffer from a place on, and ends at r; no other byte is changed
+pub record Placed (at : ℕ) (text before after : List ℕ) (r : ℕ) : Type 0 where
+  pub ends : r ≡ at + length text
+  pub bytes : after ≡ replaced at text before
 
 -- the last k decimal digits of n at most, without leading zeros, in front of other bytes
 unfoldable pub digitsBefore : ℕ → ℕ → List ℕ → List ℕ

@@ -1,10 +1,9 @@
 // A number in decimal digits, with a byte behind it.
 use record::bytes;
 ghost use mathlib.Core.Path.{_≡_};
-ghost use mathlib.Core.List.{_++_};
 ghost use Prim.Native.Nat.{_+_, _%_, _≤_, _<_};
-ghost use lib.ListN.{length, take, drop};
-ghost use Rattle.listing.specs.Listing.{field};
+ghost use lib.ListN.{length, drop};
+ghost use Rattle.listing.specs.Listing.{field, Placed};
 
 // The field is what stands from `start` on.
 pub struct Field {
@@ -39,7 +38,7 @@ fn field_of(n: u32, end: u8) -> Field
 // The field of a number and a byte goes into a buffer from a place on. Gives the place behind it.
 pub(crate) fn put_field(out: &mut [u8], at: usize, n: u32, end: u8) -> usize
     requires { ⌜ at + 11 ≤ length (now out) ⌝ }
-    ensures { λ r. ⌜ (r ≤ at + 11) × (take r (now (out .exit)) ≡ take at (now (out .entry)) ++ field n end) ⌝ }
+    ensures { λ r. ⌜ (r ≤ at + 11) × Placed at (field n end) (now (out .entry)) (now (out .exit)) r ⌝ }
 {
     let field = field_of(n, end);
     let start = field.start;

@@ -1,6 +1,6 @@
 -- `listing::execution_line` meets its contract.
 use native.Mathlib.Omega.{arith}
-use Rattle.listing.proofs.Lines.{line-put}
+use Rattle.listing.proofs.Lines.{placed-behind, placed-as, fields-line}
 use borrow.Author.Needs.{needs}
 use Rattle.listing.proofs.execution_line.Statement.{statement}
 use Rattle.listing.proofs.execution_line.Tie as tie
@@ -13,12 +13,10 @@ returns c =
     let s = x .before .before in
     let p = s .before in
     let n = p .before in
-    let a = n .before .before .before .args in (
-      omega arith,
-      line-put (a .executions .now) (a .out .now) (x .put-field .last .0) (y .put-field2 .last .0) (z .put-field3 .last .0) (a .at) (x .put-field .result)
-          (y .put-field2 .result) (z .put-field3 .result) (n .read-u32 .result) (p .read-u322 .result) (s .read-u323 .result) (n .read-u32 .ensures) (p .read-u322 .ensures) (s .read-u323 .ensures)
-          (x .put-field .ensures .1) (y .put-field2 .ensures .1) (z .put-field3 .ensures .1),
-    )
+    let a = n .before .before .before .args in
+    let t = fields-line (a .executions .now) (a .at) _ _ _ (n .read-u32 .ensures) (p .read-u322 .ensures) (s .read-u323 .ensures) in
+    let v = placed-behind (omega arith) (x .put-field .ensures .1) (y .put-field2 .ensures .1) in
+    (omega arith, placed-as t (placed-behind (omega (arith, v .ends)) v (z .put-field3 .ensures .1)))
 
 pub execution-line-spec : {M : Type 1} → statement M
 execution-line-spec =

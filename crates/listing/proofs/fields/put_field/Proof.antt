@@ -1,7 +1,7 @@
 -- `listing::fields::put_field` meets its contract.
 use mathlib.Core.Path.{refl}
 use native.Mathlib.Omega.{arith}
-use Rattle.listing.proofs.Lines.{field-put}
+use Rattle.listing.proofs.Lines.{field-placed}
 use borrow.Author.Needs.{needs}
 use Rattle.listing.proofs.fields.put_field.Statement.{statement}
 use Rattle.listing.proofs.fields.put_field.Tie as tie
@@ -12,7 +12,7 @@ returns c =
     let f = p .before .before .before .before .before in
     let a = f .before .before .args in
     let e = f .field-of .ensures in
-    (omega arith, field-put (a .at) _ _ (a .n) (a .end) _ (a .out .now) _ (e .0) (e .1) (e .2) (f .before .before .pre) refl (p .put .ensures))
+    (omega arith, field-placed (a .at) _ _ (a .n) (a .end) _ (a .out .now) _ (e .0) (e .1) (e .2) refl (p .put .ensures))
 
 pub put-field-spec : {M : Type 1} → statement M
 put-field-spec =
