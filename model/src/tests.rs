@@ -1,11 +1,13 @@
-//! The scope's cases, its refusals in their order, and the readings of the rule
-//! that it rules out.
+//! The scope's cases, its refusals in their order, the readings of the rule that
+//! it rules out, and what each paragraph of the rule says.
 
 mod books;
 mod cases;
 mod lines;
+mod paragraphs;
 mod readings;
 mod refusals;
+mod setters;
 
 use crate::book::{self, Kind, Order, RECORD_LENGTH};
 
@@ -28,14 +30,18 @@ impl Market {
         }
     }
 
-    /// Sells at the usual price, numbered from 1, written as "D 600" and
-    /// "M 500/400" with commas between.
-    fn of_sells(sells: &str) -> Market {
+    /// Orders of a side at the usual price, numbered from 1, written as "D 600"
+    /// and "M 500/400" with commas between.
+    fn of_side(side: u32, orders: &str) -> Market {
         let mut market = Market::new(8);
-        for (place, sell) in sells.split(", ").enumerate() {
-            market.accept(SELL, place as u32 + 1, PRICE, sell);
+        for (place, order) in orders.split(", ").enumerate() {
+            market.accept(side, place as u32 + 1, PRICE, order);
         }
         market
+    }
+
+    fn of_sells(sells: &str) -> Market {
+        Market::of_side(SELL, sells)
     }
 
     fn add(&mut self, side: u32, number: u32, price: u32, order: &str) -> u32 {
@@ -73,7 +79,11 @@ impl Market {
 
     /// What orders 1, 2 and so on get when a buy at the usual price comes in.
     fn shares_of_buy(&self, size: u32, algorithm: u32) -> Vec<u32> {
-        let fills = self.clone().take(BUY, PRICE, size, algorithm).0;
+        self.shares_of(BUY, size, algorithm)
+    }
+
+    fn shares_of(&self, side: u32, size: u32, algorithm: u32) -> Vec<u32> {
+        let fills = self.clone().take(side, PRICE, size, algorithm).0;
         let shares = |number| {
             let fill = fills.iter().find(|fill| fill.0 == number);
             fill.map_or(0, |fill| fill.2)

@@ -200,6 +200,19 @@ fn fast_and_plain_agree_on_damaged_books() {
     agree_on_books(2, 6_000, true);
 }
 
+/// One take by both, on copies of the same book.
+fn agree_on_size(book: &[u8], side: u32, limit: u32, size: u32, algorithm: u32) {
+    let mut copies = [book.to_vec(), book.to_vec()];
+    let mut executions = [vec![0; 4_096], vec![0; 4_096]];
+    let [plain, fast] = &mut copies;
+    let [first, second] = &mut executions;
+    let plain = model::take(plain, first, side, limit, size, algorithm);
+    let fast = fast::take(fast, second, side, limit, size, algorithm);
+    assert_eq!(plain, fast, "{side} {limit} {size} {algorithm}");
+    assert_eq!(copies[0], copies[1]);
+    assert_eq!(executions[0], executions[1]);
+}
+
 /// A lot sharing of every small size shows each step of the rounding.
 #[test]
 fn fast_and_plain_agree_on_every_size_of_an_incoming_order() {
@@ -214,15 +227,77 @@ fn fast_and_plain_agree_on_every_size_of_an_incoming_order() {
         let book = shape.book(&mut random, 24, 0);
         for size in 1..2_000 {
             for algorithm in 1..=3 {
-                let mut copies = [book.clone(), book.clone()];
-                let mut executions = [vec![0; 4_096], vec![0; 4_096]];
-                let [plain, fast] = &mut copies;
-                let [first, second] = &mut executions;
-                let plain = model::take(plain, first, 1, 200_000, size, algorithm);
-                let fast = fast::take(fast, second, 1, 200_000, size, algorithm);
-                assert_eq!(plain, fast);
-                assert_eq!(copies[0], copies[1]);
-                assert_eq!(executions[0], executions[1]);
+                agree_on_size(&book, 1, 200_000, size, algorithm);
+            }
+        }
+    }
+}
+
+/// Kind, size and minimum of the orders of small books, each of which tells one
+/// sentence on sharing from another reading of it.
+const TELLING_BOOKS: &[&[[u32; 3]]] = &[
+    // Lot sharing: whole lots first, then the rest by entry size, a lot at most.
+    &[[1, 100, 0], [1, 300, 0], [1, 200, 0]],
+    &[[2, 100, 0], [2, 300, 0], [2, 200, 0]],
+    &[[1, 300, 0], [1, 250, 0]],
+    &[[2, 300, 0], [2, 250, 0]],
+    &[[1, 250, 0], [1, 150, 0], [1, 150, 0]],
+    &[[2, 250, 0], [2, 150, 0], [2, 150, 0]],
+    &[[1, 200, 0], [1, 300, 0], [1, 300, 0]],
+    &[[2, 200, 0], [2, 300, 0], [2, 300, 0]],
+    &[[1, 150, 0], [1, 150, 0]],
+    &[[2, 150, 0], [2, 150, 0]],
+    // A lot has 100 shares.
+    &[[1, 99, 0], [1, 300, 0]],
+    &[[2, 99, 0], [2, 300, 0]],
+    // Below a lot the largest first, equal ones by time.
+    &[[1, 40, 0], [1, 60, 0]],
+    &[[2, 30, 0], [2, 60, 0]],
+    &[[1, 50, 0], [1, 60, 0], [1, 60, 0]],
+    &[[2, 50, 0], [2, 60, 0], [2, 60, 0]],
+    // The smallest minimum first, whatever the size, equal ones by time.
+    &[[3, 500, 200], [3, 400, 100]],
+    &[[3, 400, 200], [3, 500, 100]],
+    &[[3, 300, 100], [3, 400, 100]],
+    &[[3, 400, 100], [3, 300, 100]],
+    &[[3, 60, 30], [3, 200, 20]],
+    &[[3, 200, 30], [3, 60, 20]],
+    &[[3, 200, 100], [3, 200, 150]],
+    &[[2, 60, 0], [3, 50, 20]],
+    &[[3, 200, 100], [2, 300, 0]],
+    &[[3, 300, 200]],
+    &[[3, 300, 300], [3, 100, 100], [2, 30, 0]],
+    // All paragraphs, the last first.
+    &[
+        [2, 60, 0],
+        [3, 100, 70],
+        [2, 100, 0],
+        [1, 60, 0],
+        [1, 100, 0],
+    ],
+    // A setter, and none.
+    &[[1, 1_000, 0], [1, 3_000, 0], [1, 1_000, 0]],
+    &[[1, 150, 0], [1, 100, 0], [1, 150, 0]],
+    &[[1, 300, 0], [1, 250, 0], [1, 250, 0], [1, 200, 0]],
+    &[[1, 300, 0], [1, 900, 0]],
+    &[[1, 50, 0], [1, 200, 0], [1, 800, 0]],
+];
+
+#[test]
+fn fast_and_plain_agree_on_telling_books() {
+    for &orders in TELLING_BOOKS {
+        let total: u32 = orders.iter().map(|order| order[1]).sum();
+        for (resting, incoming) in [(1, 2), (2, 1)] {
+            let mut book = vec![0; orders.len() * RECORD_LENGTH];
+            for (place, &[kind, size, minimum]) in orders.iter().enumerate() {
+                let number = place as u32 + 1;
+                let refusal = model::add(&mut book, resting, kind, number, 100_000, size, minimum);
+                assert_eq!(refusal, 0);
+            }
+            for size in 1..=total + 1 {
+                for algorithm in 1..=3 {
+                    agree_on_size(&book, incoming, 100_000, size, algorithm);
+                }
             }
         }
     }
