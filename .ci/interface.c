@@ -3,14 +3,32 @@
 #include <string.h>
 #include <ruhvasto.h>
 
+/* Whether a struct's field of this name lies at this byte. */
+#define AT(type, field, byte) _Static_assert(offsetof(type, field) == (byte), #field " of " #type)
+
+_Static_assert(sizeof(ruhvasto_add_request) == 24, "size of ruhvasto_add_request");
+AT(ruhvasto_add_request, side, 0);
+AT(ruhvasto_add_request, kind, 4);
+AT(ruhvasto_add_request, number, 8);
+AT(ruhvasto_add_request, price, 12);
+AT(ruhvasto_add_request, size, 16);
+AT(ruhvasto_add_request, minimum, 20);
+_Static_assert(sizeof(ruhvasto_take_request) == 16, "size of ruhvasto_take_request");
+AT(ruhvasto_take_request, side, 0);
+AT(ruhvasto_take_request, limit, 4);
+AT(ruhvasto_take_request, size, 8);
+AT(ruhvasto_take_request, algorithm, 12);
 _Static_assert(sizeof(ruhvasto_checked) == 8, "size of ruhvasto_checked");
-_Static_assert(offsetof(ruhvasto_checked, refusal) == 0 && offsetof(ruhvasto_checked, orders) == 4, "fields of ruhvasto_checked");
+AT(ruhvasto_checked, refusal, 0);
+AT(ruhvasto_checked, orders, 4);
 _Static_assert(sizeof(ruhvasto_found) == 24, "size of ruhvasto_found");
-_Static_assert(offsetof(ruhvasto_found, refusal) == 0 && offsetof(ruhvasto_found, start) == 8, "fields of ruhvasto_found");
-_Static_assert(offsetof(ruhvasto_found, length) == 16, "last field of ruhvasto_found");
+AT(ruhvasto_found, refusal, 0);
+AT(ruhvasto_found, start, 8);
+AT(ruhvasto_found, length, 16);
 _Static_assert(sizeof(ruhvasto_taken) == 12, "size of ruhvasto_taken");
-_Static_assert(offsetof(ruhvasto_taken, refusal) == 0 && offsetof(ruhvasto_taken, count) == 4, "fields of ruhvasto_taken");
-_Static_assert(offsetof(ruhvasto_taken, left) == 8, "last field of ruhvasto_taken");
+AT(ruhvasto_taken, refusal, 0);
+AT(ruhvasto_taken, count, 4);
+AT(ruhvasto_taken, left, 8);
 _Static_assert(RUHVASTO_BOOK_BYTES == RUHVASTO_BOOK_ORDERS * RUHVASTO_RECORD_BYTES, "the largest book");
 _Static_assert(RUHVASTO_EXECUTIONS_BYTES == RUHVASTO_BOOK_ORDERS * RUHVASTO_EXECUTION_BYTES, "the most executions");
 
@@ -42,17 +60,30 @@ static void clear(void)
 static uint32_t add(uint32_t side, uint32_t kind, uint32_t price, uint32_t size, uint32_t minimum)
 {
     clear();
-    return ruhvasto_add(book, 4 * RUHVASTO_RECORD_BYTES, side, kind, 1, price, size, minimum);
+    return ruhvasto_add(book, 4 * RUHVASTO_RECORD_BYTES, (ruhvasto_add_request){
+        .side = side, .kind = kind, .number = 1, .price = price, .size = size, .minimum = minimum });
+}
+
+static uint32_t add_displayed(size_t book_len, uint32_t side, uint32_t number, uint32_t size)
+{
+    return ruhvasto_add(book, book_len, (ruhvasto_add_request){
+        .side = side, .kind = RUHVASTO_DISPLAYED, .number = number, .price = 100000, .size = size });
 }
 
 static uint32_t add_sell(size_t book_len, uint32_t number, uint32_t size)
 {
-    return ruhvasto_add(book, book_len, RUHVASTO_SELL, RUHVASTO_DISPLAYED, number, 100000, size, 0);
+    return add_displayed(book_len, RUHVASTO_SELL, number, size);
+}
+
+static ruhvasto_taken take_from(size_t book_len, size_t executions_len, uint32_t size, uint32_t algorithm)
+{
+    return ruhvasto_take(book, book_len, executions, executions_len, (ruhvasto_take_request){
+        .side = RUHVASTO_BUY, .limit = 100000, .size = size, .algorithm = algorithm });
 }
 
 static ruhvasto_taken take(size_t executions_len, uint32_t size, uint32_t algorithm)
 {
-    return ruhvasto_take(book, 4 * RUHVASTO_RECORD_BYTES, executions, executions_len, RUHVASTO_BUY, 100000, size, algorithm);
+    return take_from(4 * RUHVASTO_RECORD_BYTES, executions_len, size, algorithm);
 }
 
 static void ranges(void)
@@ -76,6 +107,14 @@ static void ranges(void)
     EXPECT(take(0, 1, RUHVASTO_PRO_RATA_SETTER + 1).refusal == RUHVASTO_OUT_OF_RANGE);
 }
 
+/* The largest book with as many sells, numbered from 1. */
+static void fill(void)
+{
+    clear();
+    for (uint32_t i = 1; i <= RUHVASTO_BOOK_ORDERS; i++)
+        add_sell(RUHVASTO_BOOK_BYTES, i, 100);
+}
+
 static void lengths(void)
 {
     clear();
@@ -84,12 +123,10 @@ static void lengths(void)
     EXPECT(ruhvasto_check(book, RUHVASTO_BOOK_BYTES + RUHVASTO_RECORD_BYTES).refusal == RUHVASTO_UNSOUND_BOOK);
     EXPECT(ruhvasto_check(book, RUHVASTO_RECORD_BYTES - 1).refusal == RUHVASTO_UNSOUND_BOOK);
     EXPECT(add_sell(0, 1, 100) == RUHVASTO_BOOK_FULL);
-    for (uint32_t i = 1; i <= RUHVASTO_BOOK_ORDERS; i++)
-        add_sell(RUHVASTO_BOOK_BYTES, i, 100);
+    fill();
     EXPECT(ruhvasto_check(book, RUHVASTO_BOOK_BYTES).orders == RUHVASTO_BOOK_ORDERS);
     EXPECT(add_sell(RUHVASTO_BOOK_BYTES, RUHVASTO_BOOK_ORDERS + 1, 100) == RUHVASTO_BOOK_FULL);
-    ruhvasto_taken taken = ruhvasto_take(book, RUHVASTO_BOOK_BYTES, executions, RUHVASTO_EXECUTIONS_BYTES, RUHVASTO_BUY, 100000,
-                                         RUHVASTO_SIZE_MOST, RUHVASTO_PRO_RATA);
+    ruhvasto_taken taken = take_from(RUHVASTO_BOOK_BYTES, RUHVASTO_EXECUTIONS_BYTES, RUHVASTO_SIZE_MOST, RUHVASTO_PRO_RATA);
     EXPECT(taken.count == RUHVASTO_BOOK_ORDERS && taken.left == RUHVASTO_SIZE_MOST - RUHVASTO_BOOK_ORDERS * 100);
     EXPECT(ruhvasto_check(book, RUHVASTO_BOOK_BYTES).orders == 0);
 }
@@ -132,19 +169,73 @@ static void refusals(void)
     EXPECT(ruhvasto_reduce(book, book_len, 6, 1) == RUHVASTO_UNKNOWN_NUMBER);
     EXPECT(ruhvasto_reduce(book, book_len, 7, 101) == RUHVASTO_TOO_MANY_SHARES);
     EXPECT(add_sell(book_len, 7, 100) == RUHVASTO_STALE_NUMBER);
-    EXPECT(ruhvasto_add(book, book_len, RUHVASTO_BUY, RUHVASTO_DISPLAYED, 8, 100000, 1, 0) == RUHVASTO_COULD_TRADE);
+    EXPECT(add_displayed(book_len, RUHVASTO_BUY, 8, 1) == RUHVASTO_COULD_TRADE);
     EXPECT(ruhvasto_reduce(book, book_len, 5, 100) == RUHVASTO_ACCEPTED);
     EXPECT(ruhvasto_check(book, book_len).orders == 1 && ruhvasto_order_at(book).number == 7);
     book[book_len - 1] = 1;
     EXPECT(ruhvasto_reduce(book, book_len, 7, 1) == RUHVASTO_UNSOUND_BOOK);
 }
 
+/* The words of each refusal number in turn, and of numbers that no refusal has. */
+static void names(void)
+{
+    static const char *const words[] = { "accepted", "out of range", "unsound book", "unknown number", "stale number", "could trade",
+                                         "book full", "too many shares", "small buffer", "unknown refusal" };
+    for (uint32_t i = 0; i < sizeof words / sizeof *words; i++)
+        EXPECT(strcmp(ruhvasto_refusal_name(i), words[i]) == 0);
+    EXPECT(strcmp(ruhvasto_refusal_name(UINT32_MAX), "unknown refusal") == 0);
+}
+
+static void orders(void)
+{
+    clear();
+    EXPECT(ruhvasto_highest_number(book, 0) == 0);
+    EXPECT(ruhvasto_highest_number(book, RUHVASTO_BOOK_BYTES) == 0);
+    add_sell(RUHVASTO_BOOK_BYTES, 5, 100);
+    EXPECT(ruhvasto_highest_number(book, RUHVASTO_BOOK_BYTES) == 5 && ruhvasto_order_in(book, 0).number == 5);
+    EXPECT(ruhvasto_highest_number(book, RUHVASTO_RECORD_BYTES) == 5);
+    EXPECT(ruhvasto_highest_number(book, RUHVASTO_RECORD_BYTES - 1) == 0);
+    add_sell(RUHVASTO_BOOK_BYTES, UINT32_MAX, 99);
+    EXPECT(ruhvasto_highest_number(book, RUHVASTO_BOOK_BYTES) == UINT32_MAX && ruhvasto_order_in(book, 1).size == 99);
+    fill();
+    EXPECT(ruhvasto_highest_number(book, RUHVASTO_BOOK_BYTES) == RUHVASTO_BOOK_ORDERS);
+    EXPECT(ruhvasto_order_in(book, 0).number == 1 && ruhvasto_order_in(book, 0).setter == 1);
+    EXPECT(ruhvasto_order_in(book, RUHVASTO_BOOK_ORDERS - 1).number == RUHVASTO_BOOK_ORDERS);
+}
+
+/* A number serves again once every order of it or a higher one has left, and not before. */
+static void used_again(void)
+{
+    const size_t book_len = 4 * RUHVASTO_RECORD_BYTES;
+    clear();
+    add_sell(book_len, 5, 100);
+    add_sell(book_len, 7, 100);
+    EXPECT(ruhvasto_reduce(book, book_len, 5, 100) == RUHVASTO_ACCEPTED && add_sell(book_len, 5, 100) == RUHVASTO_STALE_NUMBER);
+    EXPECT(ruhvasto_reduce(book, book_len, 7, 100) == RUHVASTO_ACCEPTED && add_sell(book_len, 5, 100) == RUHVASTO_ACCEPTED);
+}
+
+/* What a take leaves can be added at its limit, beside an order whose minimum it didn't meet; one share more could trade. */
+static void left_over(void)
+{
+    const size_t book_len = 4 * RUHVASTO_RECORD_BYTES;
+    EXPECT(add(RUHVASTO_SELL, RUHVASTO_MINIMUM_QUANTITY, 100000, 400, 300) == RUHVASTO_ACCEPTED);
+    add_sell(book_len, 2, 100);
+    EXPECT(take(RUHVASTO_EXECUTIONS_BYTES, 399, RUHVASTO_PRICE_TIME).left == 299);
+    EXPECT(add_displayed(book_len, RUHVASTO_BUY, 2, 300) == RUHVASTO_COULD_TRADE);
+    EXPECT(add_displayed(book_len, RUHVASTO_BUY, 2, 299) == RUHVASTO_ACCEPTED);
+}
+
 int main(void)
 {
+    EXPECT(ruhvasto_version() == RUHVASTO_VERSION);
     ranges();
     lengths();
     layouts();
     refusals();
+    names();
+    orders();
+    used_again();
+    left_over();
     printf("%d passed, %d failed\n", passed, failed);
     return failed != 0;
 }

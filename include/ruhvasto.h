@@ -12,9 +12,9 @@
  * A buffer may lie at any address, however aligned.
  *
  * WHAT THE CALLER GETS. Every call ends. Nothing is allocated, and nothing is kept between calls: calls on buffers of their own may run in
- * any number of threads at once. Take uses less than 60,000 bytes of stack and every other call less than 3,000, beside what those three
- * functions of the C library use. It is proved of the source that what a call returns and every byte that it leaves in each buffer is what
- * the definitions of the rule say, refused or not; the compiler is trusted.
+ * any number of threads at once. Take uses less than RUHVASTO_TAKE_STACK_BYTES of stack and every other call less than
+ * RUHVASTO_STACK_BYTES, beside what those three functions of the C library use. It is proved of the source that what a call returns and
+ * every byte that it leaves in each buffer is what the definitions of the rule say, refused or not; the compiler is trusted.
  *
  * A REFUSED CALL returns its refusal number, 0 in every other number that it returns, and changes no byte of any buffer. The refusals are
  * checked in the order of their numbers, and the first that holds is returned. An accepted call returns 0 as its refusal number.
@@ -23,6 +23,10 @@
 #ifndef RUHVASTO_H
 #define RUHVASTO_H
 
+#if !defined(__x86_64__) || defined(__ILP32__) || !defined(__linux__)
+#error "ruhvasto supports x86-64 Linux with pointers of 64 bits, and no other machine or system"
+#endif
+
 #include <stddef.h>
 #include <stdint.h>
 
@@ -30,8 +34,24 @@
 extern "C" {
 #endif
 
+/* For GCC and Clang: a warning where the answer of a call, and so its refusal, isn't looked at, and where a pointer is NULL. */
+#if defined(__GNUC__)
+#define RUHVASTO_USE_ANSWER __attribute__((warn_unused_result))
+#define RUHVASTO_NO_NULL __attribute__((nonnull))
+#else
+#define RUHVASTO_USE_ANSWER
+#define RUHVASTO_NO_NULL
+#endif
+
 /* The version of this interface. It rises with every change that a caller can notice. */
-#define RUHVASTO_VERSION 1
+#define RUHVASTO_VERSION 2
+
+/* The last change request that the library has; 0 is the base, without any. */
+#define RUHVASTO_REQUESTS 0
+
+/* Bytes of stack that are enough for take, and for every other call. */
+#define RUHVASTO_TAKE_STACK_BYTES 60000
+#define RUHVASTO_STACK_BYTES 3000
 
 /* THE BOOK is a buffer of 0 to 8,192 bytes, a whole number of records of 32 bytes. Orders fill its front, in rising order number, which is
  * the order of time; every byte behind them is zero. So a new book is a buffer filled with zeros, 32 bytes for each order that it is
@@ -48,7 +68,10 @@ extern "C" {
  *   byte 21 to 31 zero
  *
  * At most one order of a side and price has the setter mark. A book with all this is sound. Every call checks all of it before it uses the
- * book, so a book may be stored, sent and lent again; damage that leaves it sound isn't noticed. */
+ * book, so a book may be stored, sent and lent again; damage that leaves it sound isn't noticed.
+ *
+ * An order number may be used again once every order of that number or a higher one has left the book. So a number names one order only at
+ * one time: whoever keeps a record of a course writes the time of each take beside its executions. */
 #define RUHVASTO_RECORD_BYTES 32
 #define RUHVASTO_BOOK_ORDERS 256
 #define RUHVASTO_BOOK_BYTES 8192
@@ -92,6 +115,31 @@ enum {
     RUHVASTO_SMALL_BUFFER = 8     /* take: the executions need more bytes than the execution buffer has */
 };
 
+/* REQUESTS. The numbers of add and of take are given as a struct by value. Later editions add fields, last. So name the fields; in C as in
+ *
+ *     (ruhvasto_add_request){ .side = RUHVASTO_SELL, .kind = RUHVASTO_DISPLAYED, .number = 7, .price = 100000, .size = 500 }
+ *     (ruhvasto_take_request){ .side = RUHVASTO_BUY, .limit = 100000, .size = 1200, .algorithm = RUHVASTO_PRO_RATA }
+ *
+ * A field that isn't named is 0: here the minimum. In C++ start from ruhvasto_add_request request = {} and set fields of it. */
+
+/* What add is given: the fields of the new order. The ranges are those of a record. */
+typedef struct {
+    uint32_t side;
+    uint32_t kind;
+    uint32_t number;
+    uint32_t price;
+    uint32_t size;
+    uint32_t minimum;
+} ruhvasto_add_request;
+
+/* What take is given: the side, limit price and size of the incoming order, ranges as in a record, and the algorithm. */
+typedef struct {
+    uint32_t side;
+    uint32_t limit;
+    uint32_t size;
+    uint32_t algorithm;
+} ruhvasto_take_request;
+
 /* What check returns: the number of orders. */
 typedef struct {
     uint32_t refusal;
@@ -112,43 +160,70 @@ typedef struct {
     uint32_t left;
 } ruhvasto_taken;
 
+/* The RUHVASTO_VERSION of the library that is linked. Where it isn't the header's, the two don't belong together. */
+uint32_t ruhvasto_version(void);
+
 /* Whether the book is sound, and how many orders it has.
  * Refusals: RUHVASTO_UNSOUND_BOOK. */
+RUHVASTO_USE_ANSWER RUHVASTO_NO_NULL
 ruhvasto_checked ruhvasto_check(const uint8_t *book, size_t book_len);
 
 /* Where in the book the order of this number lies, 1 to 4,294,967,295. The place holds until the book is changed.
  * Refusals: RUHVASTO_OUT_OF_RANGE, RUHVASTO_UNSOUND_BOOK, RUHVASTO_UNKNOWN_NUMBER. */
+RUHVASTO_USE_ANSWER RUHVASTO_NO_NULL
 ruhvasto_found ruhvasto_find(const uint8_t *book, size_t book_len, uint32_t number);
 
-/* Puts an order last in the book. The ranges are those of a record. It gets the setter mark exactly if it is displayed, has a round lot or
- * more, and is priced strictly better (a buy higher, a sell lower) than every displayed order on its side; so it does if there is none.
+/* Puts an order last in the book. It gets the setter mark exactly if it is displayed, has a round lot or more, and is priced strictly
+ * better (a buy higher, a sell lower) than every displayed order on its side; so it does if there is none.
  * Accepted, the order's record stands behind the others, no other byte is changed, and the book is sound.
  * Refusals: RUHVASTO_OUT_OF_RANGE, RUHVASTO_UNSOUND_BOOK, RUHVASTO_STALE_NUMBER, RUHVASTO_COULD_TRADE, RUHVASTO_BOOK_FULL. */
-uint32_t ruhvasto_add(uint8_t *book, size_t book_len, uint32_t side, uint32_t kind, uint32_t number, uint32_t price, uint32_t size,
-                      uint32_t minimum);
+RUHVASTO_USE_ANSWER RUHVASTO_NO_NULL
+uint32_t ruhvasto_add(uint8_t *book, size_t book_len, ruhvasto_add_request request);
 
 /* Takes shares, 1 to 999,999, from the order of this number. A minimum above the new size becomes the new size. An order without shares
  * leaves: later orders move up one record, and the last record that was used becomes zero. Accepted, the book is sound.
  * Refusals: RUHVASTO_OUT_OF_RANGE, RUHVASTO_UNSOUND_BOOK, RUHVASTO_UNKNOWN_NUMBER, RUHVASTO_TOO_MANY_SHARES. */
+RUHVASTO_USE_ANSWER RUHVASTO_NO_NULL
 uint32_t ruhvasto_reduce(uint8_t *book, size_t book_len, uint32_t number, uint32_t shares);
 
-/* An incoming order of a side, limit price and size (ranges as in a record) takes shares from the orders of the other side that are priced
- * at its limit or better, the best price first, under an algorithm. Each execution is at the resting order's price.
+/* The incoming order takes shares from the orders of the other side that are priced at its limit or better, the best price first, under the
+ * algorithm. Each execution is at the resting order's price.
  * Accepted, the executions stand at the start of their buffer, one for each order that gave shares, by price (the best first), then by
  * paragraph of the rule, then by rising order number; the bytes behind them are unchanged. In the book each of these orders has so many
  * shares less, and a minimum above its new size has become the new size; orders without shares are gone and later ones moved up; the book
- * is sound. What is left of the incoming order isn't put in the book: that is add's part.
+ * is sound. What is left of the incoming order isn't put in the book: that is add's part. Added next, on its side and at its limit, it is
+ * never refused RUHVASTO_COULD_TRADE.
  * The execution buffer may have any length; only what the executions need is asked for, nothing where there are none.
  * Refusals: RUHVASTO_OUT_OF_RANGE, RUHVASTO_UNSOUND_BOOK, RUHVASTO_SMALL_BUFFER. */
-ruhvasto_taken ruhvasto_take(uint8_t *book, size_t book_len, uint8_t *executions, size_t executions_len, uint32_t side, uint32_t limit,
-                             uint32_t size, uint32_t algorithm);
+RUHVASTO_USE_ANSWER RUHVASTO_NO_NULL
+ruhvasto_taken ruhvasto_take(uint8_t *book, size_t book_len, uint8_t *executions, size_t executions_len, ruhvasto_take_request request);
 
-/* For reading records and executions. These functions are not in the library; they are compiled where they are used. */
+/* For reading what the calls return and write. These functions are not in the library; they are compiled where they are used. */
+
+/* A refusal number in words. Every number has some: one that no call returns is an "unknown refusal". */
+static inline const char *ruhvasto_refusal_name(uint32_t refusal)
+{
+    switch (refusal) {
+    case RUHVASTO_ACCEPTED: return "accepted";
+    case RUHVASTO_OUT_OF_RANGE: return "out of range";
+    case RUHVASTO_UNSOUND_BOOK: return "unsound book";
+    case RUHVASTO_UNKNOWN_NUMBER: return "unknown number";
+    case RUHVASTO_STALE_NUMBER: return "stale number";
+    case RUHVASTO_COULD_TRADE: return "could trade";
+    case RUHVASTO_BOOK_FULL: return "book full";
+    case RUHVASTO_TOO_MANY_SHARES: return "too many shares";
+    case RUHVASTO_SMALL_BUFFER: return "small buffer";
+    default: return "unknown refusal";
+    }
+}
 
 /* Four bytes as a number. */
-static inline uint32_t ruhvasto_number_at(const uint8_t *bytes)
+RUHVASTO_NO_NULL static inline uint32_t ruhvasto_number_at(const uint8_t *bytes)
 {
-    return (uint32_t)bytes[0] | (uint32_t)bytes[1] << 8 | (uint32_t)bytes[2] << 16 | (uint32_t)bytes[3] << 24;
+    uint32_t number = bytes[3];
+    number = number << 8 | bytes[2];
+    number = number << 8 | bytes[1];
+    return number << 8 | bytes[0];
 }
 
 /* The fields of a record. */
@@ -156,7 +231,8 @@ typedef struct {
     uint32_t side, kind, number, price, size, minimum, setter;
 } ruhvasto_order;
 
-static inline ruhvasto_order ruhvasto_order_at(const uint8_t *record)
+/* Of the 32 bytes of a record. */
+RUHVASTO_NO_NULL static inline ruhvasto_order ruhvasto_order_at(const uint8_t *record)
 {
     ruhvasto_order order;
     order.side = record[2];
@@ -169,12 +245,27 @@ static inline ruhvasto_order ruhvasto_order_at(const uint8_t *record)
     return order;
 }
 
+/* The order in a place of the book; the first is 0. The place is below the number of orders that check returns: nothing checks it. */
+RUHVASTO_NO_NULL static inline ruhvasto_order ruhvasto_order_in(const uint8_t *book, size_t place)
+{
+    return ruhvasto_order_at(book + place * RUHVASTO_RECORD_BYTES);
+}
+
+/* The highest order number of a book, which the next order's must be above. Numbers rise, so it is the last order's. It is 0 where the book
+ * is empty, and where it isn't sound: the book is checked first. */
+RUHVASTO_NO_NULL static inline uint32_t ruhvasto_highest_number(const uint8_t *book, size_t book_len)
+{
+    const uint32_t orders = ruhvasto_check(book, book_len).orders;
+    return orders == 0 ? 0 : ruhvasto_order_in(book, orders - 1).number;
+}
+
 /* The fields of an execution. */
 typedef struct {
     uint32_t number, price, shares;
 } ruhvasto_execution;
 
-static inline ruhvasto_execution ruhvasto_execution_at(const uint8_t *bytes)
+/* Of the 16 bytes of an execution. */
+RUHVASTO_NO_NULL static inline ruhvasto_execution ruhvasto_execution_at(const uint8_t *bytes)
 {
     ruhvasto_execution execution;
     execution.number = ruhvasto_number_at(bytes + 4);

@@ -10,7 +10,8 @@ static uint8_t executions[RUHVASTO_EXECUTIONS_BYTES];
 /* A displayed sell. */
 static uint32_t add_sell(uint32_t number, uint32_t price, uint32_t size)
 {
-    return ruhvasto_add(book, sizeof book, RUHVASTO_SELL, RUHVASTO_DISPLAYED, number, price, size, 0);
+    return ruhvasto_add(book, sizeof book, (ruhvasto_add_request){
+        .side = RUHVASTO_SELL, .kind = RUHVASTO_DISPLAYED, .number = number, .price = price, .size = size });
 }
 
 static void print_order(ruhvasto_order order)
@@ -23,7 +24,7 @@ static void print_book(void)
     ruhvasto_checked checked = ruhvasto_check(book, sizeof book);
     printf("book refusal %" PRIu32 " orders %" PRIu32 "\n", checked.refusal, checked.orders);
     for (uint32_t i = 0; i < checked.orders; i++)
-        print_order(ruhvasto_order_at(book + i * RUHVASTO_RECORD_BYTES));
+        print_order(ruhvasto_order_in(book, i));
 }
 
 static void find(uint32_t number)
@@ -34,9 +35,9 @@ static void find(uint32_t number)
         print_order(ruhvasto_order_at(book + found.start));
 }
 
-static void take(uint32_t side, uint32_t limit, uint32_t size, uint32_t algorithm)
+static void take(ruhvasto_take_request request)
 {
-    ruhvasto_taken taken = ruhvasto_take(book, sizeof book, executions, sizeof executions, side, limit, size, algorithm);
+    ruhvasto_taken taken = ruhvasto_take(book, sizeof book, executions, sizeof executions, request);
     printf("take refusal %" PRIu32 " executions %" PRIu32 " left %" PRIu32 "\n", taken.refusal, taken.count, taken.left);
     for (uint32_t i = 0; i < taken.count; i++) {
         ruhvasto_execution execution = ruhvasto_execution_at(executions + i * RUHVASTO_EXECUTION_BYTES);
@@ -46,6 +47,10 @@ static void take(uint32_t side, uint32_t limit, uint32_t size, uint32_t algorith
 
 int main(void)
 {
+    if (ruhvasto_version() != RUHVASTO_VERSION) {
+        fputs("this is compiled for another version of the library\n", stderr);
+        return 1;
+    }
     printf("add 1 refusal %" PRIu32 "\n", add_sell(1, 100100, 1000));
     printf("add 2 refusal %" PRIu32 "\n", add_sell(2, 100000, 1000));
     printf("add 3 refusal %" PRIu32 "\n", add_sell(3, 100000, 3000));
@@ -53,7 +58,7 @@ int main(void)
     print_book();
     find(3);
     printf("reduce 1 refusal %" PRIu32 "\n", ruhvasto_reduce(book, sizeof book, 1, 400));
-    take(RUHVASTO_BUY, 100000, 1000, RUHVASTO_PRO_RATA_SETTER);
+    take((ruhvasto_take_request){ .side = RUHVASTO_BUY, .limit = 100000, .size = 1000, .algorithm = RUHVASTO_PRO_RATA_SETTER });
     print_book();
     find(5);
     printf("add 4 refusal %" PRIu32 "\n", add_sell(4, 100000, 1000));

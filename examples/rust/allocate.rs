@@ -3,11 +3,18 @@
 #[allow(dead_code)] // not every name of the module is used here
 mod ruhvasto;
 
-use ruhvasto::{Algorithm, Execution, Kind, Order, Refusal, Side};
+use ruhvasto::{AddRequest, Algorithm, Execution, Kind, Order, Refusal, Side, TakeRequest};
 
 /// A displayed sell.
 fn add_sell(book: &mut [u8], number: u32, price: u32, size: u32) {
-    let answer = ruhvasto::add(book, Side::Sell, Kind::Displayed, number, price, size);
+    let request = AddRequest {
+        side: Side::Sell,
+        kind: Kind::Displayed,
+        number,
+        price,
+        size,
+    };
+    let answer = ruhvasto::add(book, request);
     println!("add {number} refusal {}", refusal(&answer));
 }
 
@@ -43,9 +50,9 @@ fn find(book: &[u8], number: u32) {
     }
 }
 
-fn take(book: &mut [u8], side: Side, limit: u32, size: u32, algorithm: Algorithm) {
+fn take(book: &mut [u8], request: TakeRequest) {
     let mut executions = [0; ruhvasto::EXECUTIONS_BYTES];
-    match ruhvasto::take(book, &mut executions, side, limit, size, algorithm) {
+    match ruhvasto::take(book, &mut executions, request) {
         Err(Refusal(refusal)) => println!("take refusal {refusal} executions 0 left 0"),
         Ok(taken) => {
             println!(
@@ -67,6 +74,11 @@ fn take(book: &mut [u8], side: Side, limit: u32, size: u32, algorithm: Algorithm
 }
 
 fn main() {
+    assert_eq!(
+        ruhvasto::version(),
+        ruhvasto::VERSION,
+        "this is written for another version of the library"
+    );
     let mut book = [0; 16 * ruhvasto::RECORD_BYTES]; // for 16 orders, none yet
     add_sell(&mut book, 1, 100100, 1000);
     add_sell(&mut book, 2, 100000, 1000);
@@ -78,7 +90,13 @@ fn main() {
         "reduce 1 refusal {}",
         refusal(&ruhvasto::reduce(&mut book, 1, 400))
     );
-    take(&mut book, Side::Buy, 100000, 1000, Algorithm::ProRataSetter);
+    let request = TakeRequest {
+        side: Side::Buy,
+        limit: 100000,
+        size: 1000,
+        algorithm: Algorithm::ProRataSetter,
+    };
+    take(&mut book, request);
     print_book(&book);
     find(&book, 5);
     add_sell(&mut book, 4, 100000, 1000);

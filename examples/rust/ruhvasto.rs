@@ -1,6 +1,9 @@
 //! The library's five calls for Rust. What each does, its ranges and its refusals are in ruhvasto.h. A slice is always to as many bytes as it
 //! says, never NULL, and two that are lent at once to be written never overlap: so these functions are safe.
 
+/// The version of the interface that this module is written for.
+pub const VERSION: u32 = 2;
+
 pub const RECORD_BYTES: usize = 32;
 pub const EXECUTION_BYTES: usize = 16;
 /// An execution buffer of this length is never too small.
@@ -31,14 +34,51 @@ pub enum Algorithm {
     ProRataSetter = 3,
 }
 
+/// What add is given.
+#[derive(Clone, Copy)]
+pub struct AddRequest {
+    pub side: Side,
+    pub kind: Kind,
+    pub number: u32,
+    pub price: u32,
+    pub size: u32,
+}
+
+/// What take is given.
+#[derive(Clone, Copy)]
+pub struct TakeRequest {
+    pub side: Side,
+    pub limit: u32,
+    pub size: u32,
+    pub algorithm: Algorithm,
+}
+
 /// An accepted take: how many executions it wrote, and the shares left.
 pub struct Taken {
     pub count: u32,
     pub left: u32,
 }
 
-/// The structs that C's calls return.
+/// The structs that C's calls are given and return.
 mod c {
+    #[repr(C)]
+    pub struct AddRequest {
+        pub side: u32,
+        pub kind: u32,
+        pub number: u32,
+        pub price: u32,
+        pub size: u32,
+        pub minimum: u32,
+    }
+
+    #[repr(C)]
+    pub struct TakeRequest {
+        pub side: u32,
+        pub limit: u32,
+        pub size: u32,
+        pub algorithm: u32,
+    }
+
     #[repr(C)]
     pub struct Checked {
         pub refusal: u32,
@@ -61,28 +101,17 @@ mod c {
 
     #[link(name = "ruhvasto", kind = "static")]
     extern "C" {
+        pub fn ruhvasto_version() -> u32;
         pub fn ruhvasto_check(book: *const u8, book_len: usize) -> Checked;
         pub fn ruhvasto_find(book: *const u8, book_len: usize, number: u32) -> Found;
-        pub fn ruhvasto_add(
-            book: *mut u8,
-            book_len: usize,
-            side: u32,
-            kind: u32,
-            number: u32,
-            price: u32,
-            size: u32,
-            minimum: u32,
-        ) -> u32;
+        pub fn ruhvasto_add(book: *mut u8, book_len: usize, request: AddRequest) -> u32;
         pub fn ruhvasto_reduce(book: *mut u8, book_len: usize, number: u32, shares: u32) -> u32;
         pub fn ruhvasto_take(
             book: *mut u8,
             book_len: usize,
             executions: *mut u8,
             executions_len: usize,
-            side: u32,
-            limit: u32,
-            size: u32,
-            algorithm: u32,
+            request: TakeRequest,
         ) -> Taken;
     }
 }
@@ -93,6 +122,11 @@ fn accepted(refusal: u32) -> Result<(), Refusal> {
     } else {
         Err(Refusal(refusal))
     }
+}
+
+/// The version of the library that is linked.
+pub fn version() -> u32 {
+    unsafe { c::ruhvasto_version() }
 }
 
 /// The number of orders of a sound book.
@@ -109,23 +143,21 @@ pub fn find(book: &[u8], number: u32) -> Result<&[u8], Refusal> {
     Ok(&book[found.start..found.start + found.length])
 }
 
-pub fn add(
-    book: &mut [u8],
-    side: Side,
-    kind: Kind,
-    number: u32,
-    price: u32,
-    size: u32,
-) -> Result<(), Refusal> {
-    let (kind, minimum) = match kind {
+pub fn add(book: &mut [u8], request: AddRequest) -> Result<(), Refusal> {
+    let (kind, minimum) = match request.kind {
         Kind::Displayed => (1, 0),
         Kind::NonDisplayed => (2, 0),
         Kind::MinimumQuantity(minimum) => (3, minimum),
     };
-    let (bytes, len) = (book.as_mut_ptr(), book.len());
-    accepted(unsafe {
-        c::ruhvasto_add(bytes, len, side as u32, kind, number, price, size, minimum)
-    })
+    let request = c::AddRequest {
+        side: request.side as u32,
+        kind,
+        number: request.number,
+        price: request.price,
+        size: request.size,
+        minimum,
+    };
+    accepted(unsafe { c::ruhvasto_add(book.as_mut_ptr(), book.len(), request) })
 }
 
 pub fn reduce(book: &mut [u8], number: u32, shares: u32) -> Result<(), Refusal> {
@@ -135,21 +167,21 @@ pub fn reduce(book: &mut [u8], number: u32, shares: u32) -> Result<(), Refusal> 
 pub fn take(
     book: &mut [u8],
     executions: &mut [u8],
-    side: Side,
-    limit: u32,
-    size: u32,
-    algorithm: Algorithm,
+    request: TakeRequest,
 ) -> Result<Taken, Refusal> {
+    let request = c::TakeRequest {
+        side: request.side as u32,
+        limit: request.limit,
+        size: request.size,
+        algorithm: request.algorithm as u32,
+    };
     let taken = unsafe {
         c::ruhvasto_take(
             book.as_mut_ptr(),
             book.len(),
             executions.as_mut_ptr(),
             executions.len(),
-            side as u32,
-            limit,
-            size,
-            algorithm as u32,
+            request,
         )
     };
     accepted(taken.refusal)?;

@@ -12,7 +12,7 @@ use lib.Seq.{drop-cons}
 use Rattle.units.specs.declared.Shares.{Shares}
 use Rattle.units.specs.Lists.{total}
 use Rattle.sharing.specs.Rank.{partSize}
-use Rattle.turns.specs.Members.{countOf, countsOf}
+use Rattle.turns.specs.Members.{countOf, countsOf, sharesAt}
 use Rattle.turns.proofs.Arrays.{at-map, front-at}
 use Rattle.orders.specs.declared.order.Order.{Order}
 use Rattle.book.specs.Sound.{ordersOf}
@@ -23,7 +23,7 @@ use Rattle.matching.specs.Take.{Allocation, used, allocationsAt}
 use Rattle.standing.specs.declared.Level.{Level}
 use Rattle.standing.specs.Standing.{partsMet}
 use Rattle.groups.specs.Meeting.{Meets}
-use Rattle.ledger.specs.Progress.{State, Ledger, stateOf, sharesAt, Bounded}
+use Rattle.ledger.specs.Progress.{State, Ledger, stateOf, Bounded}
 use Rattle.allocation.specs.Walk.{after, rowAt, rowsAt, Roomy}
 use Rattle.allocation.proofs.Toward.{Toward, executions-after, left-after, toward-room, toward-done, toward-more, toward-skip}
 use Rattle.allocation.proofs.Passing.{row-aligned, row-unused}

@@ -13,7 +13,7 @@ use Rattle.units.specs.Lists.{sum, total}
 use Rattle.units.proofs.Tests.{false-and}
 use Rattle.units.proofs.Totals.{total-map}
 use Rattle.sharing.specs.Rank.{partSize}
-use Rattle.turns.specs.Members.{countOf, countsOf}
+use Rattle.turns.specs.Members.{countOf, countsOf, sharesAt}
 use Rattle.turns.proofs.Arrays.{at-map, front-at}
 use Rattle.orders.specs.declared.order.Order.{Order}
 use Rattle.orders.specs.Order.{Visibility}
@@ -31,7 +31,7 @@ use Rattle.standing.specs.declared.Level.{Level}
 use Rattle.standing.specs.Standing.{isShown, groupAt, partsMet}
 use Rattle.groups.specs.Meeting.{Meets}
 use Rattle.paragraphs.proofs.Allotting.{sizes-allotted}
-use Rattle.ledger.specs.Progress.{State, Ledger, stateOf, credit, sharesAt, Bounded}
+use Rattle.ledger.specs.Progress.{State, Ledger, stateOf, credit, Bounded}
 use Rattle.allocation.specs.Walk.{after, rowAt, Roomy}
 use Rattle.ledger.specs.Credits.{Credits}
 use Rattle.allocation.proofs.After.{after-one}

@@ -1,10 +1,10 @@
 -- Laws of refusals: what an accepted call has, and what a refused call leaves.
 use Prim.Native.Nat.{ℕ}
-use mathlib.Core.Path.{_≡_, refl}
-use mathlib.Core.Bool.{Bool, true, false, cond, not}
+use mathlib.Core.Path.{_≡_, refl, sym}
+use mathlib.Core.Bool.{Bool, true, false, cond, not, _&&_, true≢false}
 use mathlib.Core.List.{List, [], _∷_, _++_}
 use native.Mathlib.Omega.{arith}
-use lib.Dec.{ltb}
+use lib.Dec.{ltb, eqb}
 use borrow.Author.Tests.{ltb-true, eq-eqb, ne-eqb, not-false}
 use Rattle.units.specs.Lists.{all}
 use Rattle.units.proofs.Tests.{and-true}
@@ -44,6 +44,21 @@ pub accepted : (rs : Refusals) (s : List ℕ) → all isNumbered (refusalsOf rs 
 accepted rs s n e =
     let h = every-split NotHeld (rs .ofCall) (refuse 2 (not (sound s)) ∷ rs .ofBook) (none-held (refusalsOf rs s) n e) in
     record { ofCall = h .0; book = not-false (sound s) (h .1 .0); ofBook = h .1 .1 }
+
+-- a refusal that has the number n and holds
+abbrev gives : ℕ → Refusal → Bool
+gives n r = eqb (r .number) n && r .holds
+
+first-not-given : (n : ℕ) (r : Refusal) (rest : ℕ) (b : Bool) → r .holds ≡ b → not (gives n r) ≡ true → (rest ≡ n → ⊥) → cond b (r .number) rest ≡ n → ⊥
+first-not-given n r rest true e h k f = let z = rw (e, eq-eqb (r .number) n f) at h in true≢false (sym z)
+first-not-given n r rest false e h k f = k f
+
+-- a number that no refusal gives isn't given
+pub not-given : (n : ℕ) → (n ≡ 0 → ⊥) → (rs : List Refusal) → all (λ r. not (gives n r)) rs ≡ true → firstRefusal rs ≡ n → ⊥
+not-given n z [] h e = z (sym e)
+not-given n z (r ∷ rs) h e =
+    let a = and-true (not (gives n r)) (all (λ r. not (gives n r)) rs) h in
+    first-not-given n r (firstRefusal rs) (r .holds) refl (a .0) (not-given n z rs (a .1)) e
 
 -- an accepted call leaves the book that it makes
 pub book-accepted : (r : ℕ) (before after : List ℕ) → r ≡ 0 → changedUnless r before after .book ≡ after

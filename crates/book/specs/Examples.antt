@@ -12,7 +12,7 @@ use Rattle.orders.specs.declared.order.Kind.the-variants.{Displayed}
 use Rattle.orders.specs.declared.order.Order.{Order}
 use Rattle.record.specs.Codec.{encode, decode}
 use Rattle.record.specs.Record.{numbersOf, orderOf, numbersSound}
-use Rattle.book.specs.Sound.{sound, ordersOf, bookOf}
+use Rattle.book.specs.Sound.{sound, ordersOf, bookOf, capacityOf, orderAt}
 use Rattle.book.specs.Lookup.{checkCall, findCall, foundPart}
 
 order : Side → ℕ → ℕ → Bool → Order
@@ -36,6 +36,12 @@ checking =
     sound (replicate 8192 0) ∷
     sound crossed ∷
     eqb (checkCall crossed .orders) 2 ∷
+    sound (bookOf 1 (order Buy 1 100100 true ∷ [])) ∷
+    eqb (capacityOf crossed) 3 ∷
+    eqb (orderAt crossed 1 .number) 9 ∷
+    -- a record's first byte alone says whether it is unused
+    eqb (length (ordersOf (set crossed 33 0))) 2 ∷
+    eqb (length (ordersOf (set crossed 32 0))) 1 ∷
     -- a length that is no whole number of records; too many records; a byte behind the orders
     not (sound (crossed ++ (0 ∷ []))) ∷
     not (sound (replicate 8224 0)) ∷

@@ -104,4 +104,4 @@ firstOrders n s = firstOrdersIn form n s
 
 -- the order of record i, counted from 0
 abbrev pub orderAt : List ℕ → ℕ → Order
-orderAt s i = decodeOrder form (take 32 (drop (32 * i) s))
+orderAt s i = decodeOrder form (take recordBytes (drop (recordBytes * i) s))

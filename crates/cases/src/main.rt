@@ -1,8 +1,21 @@
 // The cases of the scope, run on lent bytes.
 mod report;
 
+use entry::admission::AddRequest;
+use matching::TakeRequest;
+
 fn add(book: &mut [u8], side: u32, kind: u32, order: u32, price: u32, size: u32, minimum: u32) {
-    let refusal = entry::add(book, side, kind, order, price, size, minimum);
+    let refusal = entry::add(
+        book,
+        AddRequest {
+            side,
+            kind,
+            number: order,
+            price,
+            size,
+            minimum,
+        },
+    );
     report::text(b"add");
     report::number(order);
     report::text(b" refusal");
@@ -28,7 +41,16 @@ fn incoming(book: &mut [u8], side: u32, limit: u32, size: u32, algorithm: u32) {
     let mut space = [7u8; 80];
     let buffer: &mut [u8] = &mut space;
     report::call(side, limit, size, algorithm);
-    let taken = take::take(book, buffer, side, limit, size, algorithm);
+    let taken = take::take(
+        book,
+        buffer,
+        TakeRequest {
+            side,
+            limit,
+            size,
+            algorithm,
+        },
+    );
     report::answer(taken, buffer);
     report::book(book);
 }

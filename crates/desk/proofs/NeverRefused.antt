@@ -1,21 +1,20 @@
 -- A desk whose book is sound and whose buffer has room for 256 executions stays so, and refuses no command with 2 or 8.
-use Prim.Native.Nat.{ℕ, _*_, _-_, _≤_}
-use mathlib.Core.Path.{_≡_, refl, sym}
-use mathlib.Core.Bool.{Bool, true, false, cond, not, _&&_, true≢false}
+use Prim.Native.Nat.{ℕ, _*_, _≤_}
+use mathlib.Core.Path.{_≡_, refl}
+use mathlib.Core.Bool.{Bool, true, false, cond}
 use mathlib.Core.List.{List, [], _∷_}
 use native.Mathlib.Omega.{arith}
 use lib.Dec.{eqb}
 use lib.ListN.{length, drop, length-append, length-drop}
-use borrow.Author.Tests.{eqb-true, eqb-false, eq-eqb, ne-eqb, le-ltb}
-use Rattle.units.specs.Lists.{all, flatMap}
+use borrow.Author.Tests.{eqb-true, eqb-false, ne-eqb, le-ltb}
+use Rattle.units.specs.Lists.{flatMap}
 use Rattle.units.specs.Lots.{roundLot}
-use Rattle.units.proofs.Tests.{and-true}
 use Rattle.record.specs.declared.execution.Execution.{Execution}
 use Rattle.record.specs.Execution.{encodeExecution}
 use Rattle.record.proofs.Executions.{length-execution}
 use Rattle.book.specs.Sound.{sound, ordersOf, capacityOf}
 use Rattle.book.specs.Refusal.{Refusal, firstRefusal, isAccepted}
-use Rattle.book.proofs.Refusing.{refusalsOf}
+use Rattle.book.proofs.Refusing.{refusalsOf, not-given}
 use Rattle.book.proofs.Soundness.{orders-sound}
 use Rattle.book.proofs.Checking.{sound-fits}
 use Rattle.entry.specs.declared.admission.AddRequest.{AddRequest}
@@ -39,21 +38,6 @@ use Rattle.desk.specs.Desk.{refusedOr, Desk, performed}
 pub record Ready (d : Desk) : Type 0 where
   pub book : sound (d .book) ≡ true
   pub room : 4096 ≤ length (d .executions)
-
--- a refusal that has the number n and holds
-abbrev gives : ℕ → Refusal → Bool
-gives n r = eqb (r .number) n && r .holds
-
-first-not-given : (n : ℕ) (r : Refusal) (rest : ℕ) (b : Bool) → r .holds ≡ b → not (gives n r) ≡ true → (rest ≡ n → ⊥) → cond b (r .number) rest ≡ n → ⊥
-first-not-given n r rest true e h k f = let z = rw (e, eq-eqb (r .number) n f) at h in true≢false (sym z)
-first-not-given n r rest false e h k f = k f
-
--- a number that no refusal gives isn't given
-not-given : (n : ℕ) → (n ≡ 0 → ⊥) → (rs : List Refusal) → all (λ r. not (gives n r)) rs ≡ true → firstRefusal rs ≡ n → ⊥
-not-given n z [] h e = z (sym e)
-not-given n z (r ∷ rs) h e =
-    let a = and-true (not (gives n r)) (all (λ r. not (gives n r)) rs) h in
-    first-not-given n r (firstRefusal rs) (r .holds) refl (a .0) (not-given n z rs (a .1)) e
 
 -- an answer that is a refusal has the call's number
 refused-is : (b : Bool) (r n : ℕ) (a : Answer) → (a ≡ Refused n → ⊥) → cond b a (Refused r) ≡ Refused n → r ≡ n

@@ -19,6 +19,9 @@ pub record Desk : Type 0 where
   pub executions : List ℕ
   pub algorithm : ℕ
 
+abbrev pub deskOf : List ℕ → List ℕ → ℕ → Desk
+deskOf book executions algorithm = record { book = book; executions = executions; algorithm = algorithm }
+
 pub record Performed : Type 0 where
   pub answer : Answer
   pub desk : Desk
@@ -31,12 +34,12 @@ refusedOr refusal answer = cond (isAccepted refusal) answer (Refused refusal)
 abbrev pub withBook : ℕ → List ℕ → Desk → Performed
 withBook refusal book d = record {
   answer = refusedOr refusal Silent;
-  desk = record { book = book; executions = d .executions; algorithm = d .algorithm };
+  desk = deskOf book (d .executions) (d .algorithm);
 }
 
 -- An algorithm is set; an order is added, reduced or taken from; a line that is no command is refused 1. Only an accepted take lists.
 unfoldable pub performed : Command → Desk → Performed
-performed (Choose n) d = record { answer = Silent; desk = record { book = d .book; executions = d .executions; algorithm = n } }
+performed (Choose n) d = record { answer = Silent; desk = deskOf (d .book) (d .executions) n }
 performed (Add side kind number price size minimum) d =
     let q : AddRequest = record { side = side; kind = kind; number = number; price = price; size = size; minimum = minimum } in
     let c = addCall q (d .book) in
@@ -48,6 +51,6 @@ performed (Take side limit size) d =
     let t = c .taken in
     record {
       answer = refusedOr (t .refusal) (Listed (t .count) (t .left));
-      desk = record { book = c .book; executions = c .executions; algorithm = d .algorithm };
+      desk = deskOf (c .book) (c .executions) (d .algorithm);
     }
 performed Nothing d = record { answer = Refused 1; desk = d }

@@ -1,7 +1,9 @@
 // A desk that a fillsheet's commands are given to: a book, a buffer for executions, and an algorithm.
+use entry::admission::AddRequest;
+use matching::TakeRequest;
 use script::command::Command;
 ghost use mathlib.Core.Path.{_≡_};
-ghost use Rattle.desk.specs.Desk.{refusedOr, performed};
+ghost use Rattle.desk.specs.Desk.{deskOf, refusedOr, performed};
 
 // What a command answers: nothing, its refusal, or how many executions a take wrote and the shares left.
 pub enum Answer {
@@ -34,7 +36,8 @@ pub fn perform(
     executions: &mut [u8],
     algorithm: u32,
 ) -> Performance
-    ensures { λ r. ⌜ record { answer = r .answer; desk = record { book = now (book .exit); executions = now (executions .exit); algorithm = r .algorithm } } ≡ performed command (record { book = now (book .entry); executions = now (executions .entry); algorithm = algorithm }) ⌝ }
+    ensures { λ r. ⌜ record { answer = r .answer; desk = deskOf (now (book .exit)) (now (executions .exit)) (r .algorithm) }
+        ≡ performed command (deskOf (now (book .entry)) (now (executions .entry)) algorithm) ⌝ }
 {
     match command {
         Command::Choose(chosen) => Performance {
@@ -49,7 +52,15 @@ pub fn perform(
             size,
             minimum,
         } => {
-            let refusal = entry::add(book, side, kind, number, price, size, minimum);
+            let request = AddRequest {
+                side,
+                kind,
+                number,
+                price,
+                size,
+                minimum,
+            };
+            let refusal = entry::add(book, request);
             let answer = refused_or(refusal, Answer::Silent);
             Performance { answer, algorithm }
         }
@@ -59,7 +70,13 @@ pub fn perform(
             Performance { answer, algorithm }
         }
         Command::Take { side, limit, size } => {
-            let taken = take::take(book, executions, side, limit, size, algorithm);
+            let request = TakeRequest {
+                side,
+                limit,
+                size,
+                algorithm,
+            };
+            let taken = take::take(book, executions, request);
             let listed = Answer::Listed {
                 count: taken.count,
                 left: taken.left,

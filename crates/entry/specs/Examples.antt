@@ -36,13 +36,26 @@ one = add 2 1 7 100100 500 0 empty .book
 two : List ℕ
 two = add 2 3 9 100000 400 300 one .book
 
+-- a number outside its range, each by itself
+beyond : List Bool
+beyond =
+    refusal (add 0 1 10 5 5 0 two) 1 ∷
+    refusal (add 3 1 10 5 5 0 two) 1 ∷
+    refusal (add 1 0 10 5 5 0 two) 1 ∷
+    refusal (add 1 4 10 5 5 0 two) 1 ∷
+    refusal (add 1 1 0 5 5 0 two) 1 ∷
+    refusal (add 1 1 10 0 5 0 two) 1 ∷
+    refusal (add 1 1 10 2000000001 5 0 two) 1 ∷
+    refusal (add 1 1 10 5 0 0 two) 1 ∷
+    refusal (add 1 1 10 5 1000000 0 two) 1 ∷
+    refusal (add 1 1 10 5 5 1 two) 1 ∷
+    refusal (add 1 3 10 5 5 6 two) 1 ∷
+    refusal (add 1 3 10 5 5 0 two) 1 ∷ []
+
 -- add's refusals, each before the next
 refusing : List Bool
 refusing =
     refusal (add 3 1 0 5 5 0 (set two 95 1)) 1 ∷
-    refusal (add 1 1 10 5 5 1 two) 1 ∷
-    refusal (add 1 3 10 5 5 6 two) 1 ∷
-    refusal (add 1 3 10 5 5 0 two) 1 ∷
     refusal (add 1 1 9 200000 5 0 (set two 95 1)) 2 ∷
     refusal (add 1 1 9 200000 5 0 two) 4 ∷
     refusal (add 1 1 10 100100 5 0 two) 5 ∷
@@ -72,6 +85,10 @@ reducing =
     (eqb (getD (reduceCall 9 150 two .book) 44 0) 250 && eqb (getD (reduceCall 9 150 two .book) 48 0) 250) ∷
     sameNumbers (reduceCall 9 400 two .book) one ∷
     sameNumbers (reduceCall 7 500 two .book) (add 2 3 9 100000 400 300 empty .book) ∷ []
+
+beyond-worked : all (λ b. b) beyond ≡ true
+unfolding beyond two one empty refusal add addCall added setsPrice requested sound ordersOf bookOf encode decode numbersOf orderOf numbersSound withInterest settled
+beyond-worked = refl
 
 refusing-worked : all (λ b. b) refusing ≡ true
 unfolding refusing two one empty marks refusal add addCall added setsPrice requested reduceCall reduced sound ordersOf bookOf encode decode numbersOf orderOf numbersSound withInterest settled

@@ -16,6 +16,7 @@ ghost use Rattle.entry.specs.Add.{requestInRange, requested, beats, coul
 ghost use Rattle.entry.specs.Plan.{standingOf, addPlan};
 
 // The numbers that add is given.
+#[repr(C)]
 pub struct AddRequest {
     pub side: u32,
     pub kind: u32,

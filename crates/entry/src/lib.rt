@@ -13,27 +13,11 @@ ghost use Rattle.entry.specs.Add.{addCall};
 ghost use Rattle.entry.specs.Reduce.{reduceCall};
 
 // An order is put last in the book. The numbers may have any value.
-pub fn add(
-    book: &mut [u8],
-    side: u32,
-    kind: u32,
-    number: u32,
-    price: u32,
-    size: u32,
-    minimum: u32,
-) -> u32
-    ensures refused { λ r. ⌜ r ≡ addCall (record { side = side; kind = kind; number = number; price = price; size = size; minimum = minimum }) (now (book .entry)) .refusal ⌝ }
-    ensures bytes { λ r. ⌜ now (book .exit) ≡ addCall (record { side = side; kind = kind; number = number; price = price; size = size; minimum = minimum }) (now (book .entry)) .book ⌝ }
+pub fn add(book: &mut [u8], request: AddRequest) -> u32
+    ensures refused { λ r. ⌜ r ≡ addCall request (now (book .entry)) .refusal ⌝ }
+    ensures bytes { λ r. ⌜ now (book .exit) ≡ addCall request (now (book .entry)) .book ⌝ }
     ensures kept_sound { λ r. ⌜ (r ≡ 0 → sound (now (book .exit)) ≡ true) ⌝ }
 {
-    let request = AddRequest {
-        side,
-        kind,
-        number,
-        price,
-        size,
-        minimum,
-    };
     match admission::decide(book, request) {
         Admission::Refused(refusal) => refusal,
         Admission::Admitted(start, order) => {

@@ -10,10 +10,10 @@ use Rattle.units.specs.declared.Shares.{Shares}
 use Rattle.units.specs.Lists.{total, zipWith}
 use Rattle.units.proofs.Totals.{total-append, total-map, map-same, zip-map}
 use Rattle.sharing.specs.Rank.{noPart, partSize}
-use Rattle.turns.specs.Members.{countOf, countsOf}
+use Rattle.turns.specs.Members.{countOf, countsOf, sharesAt}
 use Rattle.turns.proofs.Arrays.{at-map}
 use Rattle.turns.proofs.Fronts.{sums-at}
-use Rattle.turns.proofs.Places.{noShares, sharesAt, counts-at}
+use Rattle.turns.proofs.Places.{noShares, counts-at}
 use Rattle.orders.specs.declared.order.Order.{Order}
 use Rattle.orders.specs.Order.{sizeOf}
 use Rattle.book.specs.Sound.{ordersOf, orderAt}

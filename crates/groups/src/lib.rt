@@ -32,7 +32,7 @@ fn with_order(totals: [Shares; 5], level: Level, order: Order) -> [Shares; 5]
     for k in 0..5 {
         let before = sums[k];
         let more = standing::standing(level, Paragraph::at(k), order);
-        sums[k] = Shares(before.0 + more.0);
+        sums[k] = units::sum(before, more);
     }
     sums
 }

@@ -11,10 +11,9 @@ use borrow.Author.Tests.{le-ltb, ltb-false, leb-false}
 use Rattle.units.specs.declared.Shares.{Shares}
 use Rattle.units.specs.Lists.{sum, orZero}
 use Rattle.book.specs.Sound.{ordersOf}
-use Rattle.turns.specs.Members.{countOf}
+use Rattle.turns.specs.Members.{countOf, sharesAt}
 use Rattle.turns.proofs.Arrays.{front-length, front-at}
 use Rattle.standing.specs.declared.Level.{Level}
-use Rattle.ledger.specs.Progress.{sharesAt}
 use Rattle.ledger.specs.Credits.{lostAt, allotted, Allots}
 use Rattle.ledger.proofs.Stretch.{NoneBefore, NoneFrom, part-of-sum}
 

@@ -13,8 +13,9 @@ use Rattle.book.specs.Sound.{ordersOf}
 use Rattle.matching.specs.Take.{executionsBy}
 use Rattle.standing.specs.declared.Level.{Level}
 use Rattle.standing.specs.Standing.{isShown}
+use Rattle.turns.specs.Members.{sharesAt}
 use Rattle.ledger.specs.declared.Progress.{Progress}
-use Rattle.ledger.specs.Progress.{ledger, stateOf, credit, sharesAt, Bounded}
+use Rattle.ledger.specs.Progress.{ledger, stateOf, credit, Bounded}
 use Rattle.ledger.specs.Credits.{allotted, lostAt, Loggable, Logs, Credits}
 use Rattle.ledger.proofs.Allotments.{numbers-long, share-within, lost-number, lost-within}
 use Rattle.ledger.proofs.Crediting.{losses-added}

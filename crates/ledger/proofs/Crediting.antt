@@ -23,7 +23,8 @@ use Rattle.record.proofs.Pasting.{take-replaced}
 use Rattle.record.proofs.Executions.{length-execution}
 use Rattle.matching.specs.Take.{executionsBy}
 use Rattle.standing.specs.Standing.{isShown}
-use Rattle.ledger.specs.Progress.{inBytes, sharesAt}
+use Rattle.turns.specs.Members.{sharesAt}
+use Rattle.ledger.specs.Progress.{inBytes}
 use Rattle.ledger.proofs.Stretch.{NoneBefore, NoneFrom, executionBy, executions-none, executions-skip, executions-next}
 
 -- The log, with the executions of the orders before place i.

@@ -15,8 +15,8 @@ use Rattle.book.specs.Sound.{ordersOf, orderAt}
 use Rattle.book.proofs.Access.{order-here}
 use Rattle.matching.specs.Take.{executionsBy}
 use Rattle.standing.specs.declared.Level.{Level}
+use Rattle.turns.specs.Members.{sharesAt}
 use Rattle.ledger.specs.declared.Progress.{Progress}
-use Rattle.ledger.specs.Progress.{sharesAt}
 use Rattle.ledger.specs.Credits.{allotted, Loggable, Logs}
 use Rattle.ledger.proofs.Stretch.{executionBy, sum-skip, sum-none, sum-next}
 use Rattle.ledger.proofs.Allotments.{numbers-long, number-at, none-before, none-from}

@@ -7,14 +7,14 @@ use lib.Dec.{leb, ltb}
 use lib.ListN.{length, take}
 use Rattle.units.specs.declared.Shares.{Shares}
 use Rattle.units.specs.Lists.{sum, orZero}
-use Rattle.turns.specs.Members.{countsOf}
+use Rattle.turns.specs.Members.{countsOf, sharesAt}
 use Rattle.record.specs.declared.execution.Execution.{Execution}
 use Rattle.record.specs.Execution.{executionBytes}
 use Rattle.book.specs.Sound.{ordersOf}
 use Rattle.matching.specs.Take.{executionsBy}
 use Rattle.standing.specs.declared.Level.{Level}
 use Rattle.ledger.specs.declared.Progress.{Progress}
-use Rattle.ledger.specs.Progress.{Ledger, inBytes, sharesAt, Bounded}
+use Rattle.ledger.specs.Progress.{Ledger, inBytes, Bounded}
 
 -- what the order at a place loses by an allotment to the orders of a level
 abbrev pub lostAt : Level → List Shares → ℕ → ℕ

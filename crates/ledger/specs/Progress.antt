@@ -3,7 +3,6 @@ use Prim.Native.Nat.{ℕ, _+_, _-_, _*_, _≤_, _<_}
 use mathlib.Core.Path.{_≡_}
 use mathlib.Core.List.{List, _++_, map}
 use lib.ListN.{length, getD, take}
-use Rattle.units.specs.declared.Shares.{Shares}
 use Rattle.units.specs.Lists.{sum, zipWith, flatMap}
 use Rattle.orders.specs.declared.order.Order.{Order}
 use Rattle.orders.specs.Order.{Visibility, Interest, onlyOf, together}
@@ -51,10 +50,6 @@ credit os g price v ns s = record {
   losses = zipWith together (s .losses) (map (onlyOf v) ns);
   left = s .left - sum ns;
 }
-
--- what an array has at a place
-abbrev pub sharesAt : List Shares → ℕ → ℕ
-sharesAt xs i = getD xs i (record { 0 = 0 }) .0
 
 -- a list that says of each order which a book can have that it has lost nothing
 pub record NoLosses (xs : List ℕ) : Type 0 where

@@ -16,7 +16,8 @@ ghost use Rattle.orders.specs.Order.{Visibility};
 ghost use Rattle.book.specs.Sound.{ordersOf};
 ghost use Rattle.matching.specs.Take.{executionsBy};
 ghost use Rattle.standing.specs.Standing.{isShown};
-ghost use Rattle.ledger.specs.Progress.{ledger, stateOf, credit, sharesAt, Bounded};
+ghost use Rattle.turns.specs.Members.{sharesAt};
+ghost use Rattle.ledger.specs.Progress.{ledger, stateOf, credit, Bounded};
 ghost use Rattle.ledger.specs.Credits.{allotted, lostAt, Loggable, Logs, Credits};
 
 // The executions that an allotment to the orders of a level makes go into the log, and the incoming order shrinks by their shares.
@@ -35,7 +36,7 @@ fn logged(
     let price = level.price;
     let order = progress.incoming;
     let mut count = progress.count;
-    let mut used: u32 = 0;
+    let mut used = Shares(0);
     let mut i = level.from;
     while i < level.to {
         let shares = allotment[i];
@@ -50,11 +51,11 @@ fn logged(
             bytes::put(log, EXECUTION_BYTES * count, &bytes);
             count += 1;
         }
-        used += shares.0;
+        used = units::sum(used, shares);
         i += 1;
     }
     Progress {
-        incoming: order.executed(Shares(used)),
+        incoming: order.executed(used),
         count,
     }
 }
@@ -69,8 +70,9 @@ fn lose(lost: &mut [u32], level: Level, allotment: [Shares; 256])
 {
     let mut i = level.from;
     while i < level.to {
-        let more = allotment[i];
-        lost[i] = lost[i] + more.0;
+        let before = Shares(lost[i]);
+        let after = units::sum(before, allotment[i]);
+        lost[i] = after.0;
         i += 1;
     }
 }

@@ -1,5 +1,6 @@
 // A number in decimal digits, with a byte behind it.
 use record::bytes;
+ghost use Rattle.units.specs.Text.{digitZero};
 ghost use mathlib.Core.Path.{_≡_};
 ghost use Prim.Native.Nat.{_+_, _%_, _≤_, _<_};
 ghost use lib.ListN.{length, drop};
@@ -13,9 +14,9 @@ pub struct Field {
 
 // The last digit of a number.
 fn last_digit(n: u32) -> u8
-    ensures { λ r. ⌜ r ≡ 48 + n % 10 ⌝ }
+    ensures { λ r. ⌜ r ≡ digitZero + n % 10 ⌝ }
 {
-    48 + (n % 10) as u8
+    b'0' + (n % 10) as u8
 }
 
 fn field_of(n: u32, end: u8) -> Field

@@ -7,6 +7,7 @@ ghost use mathlib.Core.List.{_++_};
 ghost use Prim.Native.Nat.{_+_, _≤_};
 ghost use lib.ListN.{length, drop};
 ghost use Rattle.record.specs.Execution.{decodeExecution};
+ghost use Rattle.units.specs.Text.{lineFeed};
 ghost use Rattle.listing.specs.Listing.{Placed, field, executionLine, leftLine, refusalLine};
 
 // The line of the execution that begins at a byte. Gives its length.
@@ -17,18 +18,18 @@ pub fn execution_line(executions: &[u8], at: usize, out: &mut [u8]) -> usize
     let number = bytes::read_u32(executions, at + 4);
     let price = bytes::read_u32(executions, at + 8);
     let shares = bytes::read_u32(executions, at + 12);
-    let first = put_field(out, 0, number, 32);
-    let second = put_field(out, first, price, 32);
-    put_field(out, second, shares, 10)
+    let first = put_field(out, 0, number, b' ');
+    let second = put_field(out, first, price, b' ');
+    put_field(out, second, shares, b'\n')
 }
 
 // A word and a number. Gives the line's length.
 fn word_line(word: &[u8], n: u32, out: &mut [u8]) -> usize
     requires { ⌜ (length (now word) ≤ 22) × (33 ≤ length (now out)) ⌝ }
-    ensures { λ r. ⌜ (r ≤ 33) × Placed 0 (now (word .entry) ++ field n 10) (now (out .entry)) (now (out .exit)) r ⌝ }
+    ensures { λ r. ⌜ (r ≤ 33) × Placed 0 (now (word .entry) ++ field n lineFeed) (now (out .entry)) (now (out .exit)) r ⌝ }
 {
     bytes::put(out, 0, word);
-    put_field(out, word.len(), n, 10)
+    put_field(out, word.len(), n, b'\n')
 }
 
 // The line of the shares left. Gives its length.

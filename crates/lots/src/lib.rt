@@ -1,6 +1,6 @@
 // Lot sharing, for any lot of 1 or more.
+use sharing::Rank;
 use turns::Member;
-use turns::Rank;
 use units::Shares;
 ghost use mathlib.Core.Path.{_≡_};
 ghost use mathlib.Core.List.{map};
@@ -16,12 +16,11 @@ fn total(shares: [Shares; 256], n: usize) -> Shares
     requires { ⌜ (n ≤ 256) × (sum (countsOf n shares) < 2 ^ 32) ⌝ }
     ensures { λ r. ⌜ r .0 ≡ sum (countsOf n shares) ⌝ }
 {
-    let mut sum: u32 = 0;
+    let mut sum = Shares(0);
     for i in 0..n {
-        let x = shares[i];
-        sum += x.0;
+        sum = units::sum(sum, shares[i]);
     }
-    Shares(sum)
+    sum
 }
 
 // size × q ÷ s, rounded down to a share.

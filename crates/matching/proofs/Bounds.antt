@@ -6,7 +6,7 @@ use mathlib.Core.Bool.{Bool, true, false}
 use mathlib.Core.List.{List, map, List·Memᴰ, Memᴰ·map}
 use native.Mathlib.Omega.{arith}
 use native.Mathlib.Nat.{min-comm}
-use lib.Dec.{T, leb}
+use lib.Dec.{T}
 use Rattle.units.specs.Lists.{total}
 use Rattle.units.specs.Lots.{roundDown}
 use Rattle.units.proofs.Tests.{T-true, true-T, true-and}
@@ -31,7 +31,7 @@ use Rattle.matching.specs.Take.{outcome}
 use Rattle.matching.specs.Fairness.{gets, reaching, counted, guaranteed, LotBounds, countedSize, totalAt, dividedAt, Sharing, Setter, HeldToGuarantee}
 use Rattle.matching.proofs.Parts.{part-in, part-number, parts-rising, allotShare}
 use Rattle.matching.proofs.Groups.{stands-means, one-setter, find-setter, pro-rata-group, nothing-later}
-use Rattle.matching.proofs.Groups.{lotPart, inLots, counted-size, counted-total, counted-in, in-counted, lots-displayed, free-parts, shown-free}
+use Rattle.matching.proofs.Groups.{lotPart, inLots, counted-size, counted-total, counted-in, in-counted, lots-displayed, no-minimum}
 use Rattle.matching.proofs.Reaching.{gets-share}
 
 -- the bounds of plain lot sharing
@@ -160,7 +160,7 @@ module _ (lot : ℕ) (l : 0 < lot) (alg : Algorithm) (i : Incoming) (os : List O
         other-bounds : kept ≡ true → (o : Order) → Here o → ¬ (o .number ≡ s .number) → LotBounds lot (D price - gets es s) (S price - size s) (size o) (gets es o)
         other-bounds k o b n =
             let h : q ≤ total partSize group = omega arith in
-            let z = free-parts (i .taker) price lots (shown-free (λ m n. leb lot n)) os in
+            let z = no-minimum lot ProRata Two refl (i .taker) price os in
             let j = in-group o b in
             let d = of-the-setter (guarantee q) ∙ guarantee-is ∙ sym (gets-kept k) in
             let t = of-the-setter partSize ∙ size-is s a in

@@ -11,8 +11,10 @@ use Rattle.units.specs.Lists.{any, orZero, total}
 use Rattle.units.proofs.Tests.{and-true, and-false, pick-zero}
 use Rattle.units.proofs.Members.{Every, every-weaken, none-member, member-any}
 use Rattle.units.proofs.Totals.{total-map, total-same}
+use Rattle.sharing.specs.declared.Method.{Method}
 use Rattle.sharing.specs.Rank.{Part, partSize}
 use Rattle.sharing.specs.Setter.{isSetter, OneSetter}
+use Rattle.sharing.specs.Method.{isByLots}
 use Rattle.orders.specs.declared.order.Side.{Side}
 use Rattle.orders.specs.declared.order.Side.the-variants.{Buy, Sell}
 use Rattle.orders.specs.declared.order.Kind.{Kind}
@@ -27,7 +29,8 @@ use Rattle.matching.specs.declared.Algorithm.the-variants.{PriceTime, Pr
 use Rattle.matching.specs.declared.Paragraph.{Paragraph}
 use Rattle.matching.specs.declared.Paragraph.the-variants.{Two, Three, Four, Five, Six}
 use Rattle.matching.specs.declared.incoming.Incoming.{Incoming}
-use Rattle.matching.specs.Paragraph.{Group, groupOf, proRataGroup, inGroup, partOf}
+use Rattle.matching.specs.Paragraph.{paragraphNumber, Group, everyOrder, ofLot, belowLot, withoutMinimum, timeGroup, proRataGroup, groupOf}
+use Rattle.matching.specs.Paragraph.{inGroup, partOf, methodOf}
 use Rattle.matching.specs.Fairness.{counted}
 use Rattle.matching.proofs.Parts.{stands, part-in, part-out, part-size}
 
@@ -112,7 +115,7 @@ Free g = (k : Kind) (n : ℕ) → 0 < sharesOf (g .visibility) (interestBy k n)
     → g .holds (isMinimumQuantity k) (sharesOf (g .visibility) (interestBy k n)) ≡ true → minimumOf k ≡ 0
 
 -- the parts of such a group carry none
-pub free-parts : (t : Taker) (price : ℕ) (g : Group) → Free g → (os : List Order) → Every (λ p. p .minimum ≡ 0) (map (partOf t price g) os)
+free-parts : (t : Taker) (price : ℕ) (g : Group) → Free g → (os : List Order) → Every (λ p. p .minimum ≡ 0) (map (partOf t price g) os)
 free-parts t price g f [] = tt
 free-parts t price g f (o ∷ os) = (go (stands t price g o) refl, free-parts t price g f os)
   where
@@ -124,16 +127,60 @@ free-parts t price g f (o ∷ os) = (go (stands t price g o) refl, free-parts t 
     go false e = ap (λ (p : Part). p .minimum) (part-out t price g o e)
 
 -- displayed orders carry none
-pub shown-free : (holds : Bool → ℕ → Bool) → Free (record { visibility = shown; holds = holds })
-shown-free holds Displayed n h e = refl
-shown-free holds NonDisplayed n h e = refl
-shown-free holds (MinimumQuantity m) n h e = absurd (omega arith)
+shown-free : (test : Bool → ℕ → Bool) → Free (record { visibility = shown; holds = test })
+shown-free test Displayed n h e = refl
+shown-free test NonDisplayed n h e = refl
+shown-free test (MinimumQuantity m) n h e = absurd (omega arith)
 
--- and non-displayed ones that are no minimum quantity orders
-pub hidden-free : (test : ℕ → Bool) → Free (record { visibility = hidden; holds = λ m n. not m && test n })
+-- nor do orders that are no minimum quantity orders
+hidden-free : (test : Bool → ℕ → Bool) → Free (record { visibility = hidden; holds = withoutMinimum test })
 hidden-free test Displayed n h e = refl
 hidden-free test NonDisplayed n h e = refl
 hidden-free test (MinimumQuantity m) n h e = absurd (false≢true e)
+
+-- the paragraphs whose orders carry no minimum: the displayed ones of price/time, and all but the fifth of pro rata
+abbrev pub hasNoMinimum : Algorithm → Paragraph → Bool
+hasNoMinimum PriceTime g = eqb (paragraphNumber g) 2
+hasNoMinimum ProRata g = not (eqb (paragraphNumber g) 5)
+hasNoMinimum PriceSetter g = not (eqb (paragraphNumber g) 5)
+
+time-free : (g : Paragraph) → hasNoMinimum PriceTime g ≡ true → Free (timeGroup g)
+time-free Two e = shown-free everyOrder
+time-free Three e = absurd (false≢true e)
+time-free Four e = absurd (false≢true e)
+time-free Five e = absurd (false≢true e)
+time-free Six e = absurd (false≢true e)
+
+pro-rata-free : (lot : ℕ) (g : Paragraph) → hasNoMinimum ProRata g ≡ true → Free (proRataGroup lot g)
+pro-rata-free lot Two e = shown-free (ofLot lot)
+pro-rata-free lot Three e = shown-free (belowLot lot)
+pro-rata-free lot Four e = hidden-free (ofLot lot)
+pro-rata-free lot Five e = absurd (false≢true e)
+pro-rata-free lot Six e = hidden-free (belowLot lot)
+
+group-free : (lot : ℕ) (alg : Algorithm) (g : Paragraph) → hasNoMinimum alg g ≡ true → Free (groupOf lot alg g)
+group-free lot PriceTime g e = time-free g e
+group-free lot ProRata g e = pro-rata-free lot g e
+group-free lot PriceSetter g e = pro-rata-free lot g e
+
+-- where the fifth paragraph doesn't share by lots, those that do are among them
+but-five : (way : Paragraph → Method) → isByLots (way Five) ≡ false → (g : Paragraph) → isByLots (way g) ≡ true → hasNoMinimum ProRata g ≡ true
+but-five way f Two e = refl
+but-five way f Three e = refl
+but-five way f Four e = refl
+but-five way f Five e = absurd (false≢true (sym f ∙ e))
+but-five way f Six e = refl
+
+-- so every paragraph that shares by lots is one of them
+pub lots-no-minimum : (alg : Algorithm) (g : Paragraph) → isByLots (methodOf alg g) ≡ true → hasNoMinimum alg g ≡ true
+lots-no-minimum PriceTime g e = absurd (false≢true e)
+lots-no-minimum ProRata g e = but-five (methodOf ProRata) refl g e
+lots-no-minimum PriceSetter g e = but-five (methodOf PriceSetter) refl g e
+
+-- the parts in such a paragraph carry none
+pub no-minimum : (lot : ℕ) (alg : Algorithm) (g : Paragraph) → hasNoMinimum alg g ≡ true → (t : Taker) (price : ℕ) (os : List Order)
+    → Every (λ p. p .minimum ≡ 0) (map (partOf t price (groupOf lot alg g)) os)
+no-minimum lot alg g e t price os = free-parts t price (groupOf lot alg g) (group-free lot alg g e) os
 
 -- an order that displays shares has no others
 displays : (o : Order) → 0 < interestOf o .displayed → interestOf o .nonDisplayed ≡ 0

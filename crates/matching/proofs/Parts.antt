@@ -3,31 +3,22 @@ use Prim.Native.Nat.{ℕ, _-_}
 use mathlib.Core.Path.{_≡_, refl, _∙_}
 use mathlib.Core.Bool.{Bool, true, false, _&&_}
 use mathlib.Core.List.{List, [], _∷_, map, List·Memᴰ, Memᴰ·map}
-use native.Mathlib.Omega.{arith}
 use lib.Dec.{ltb, eqb}
 use lib.ListN.{length, length-map}
 use borrow.Author.Tests.{ltb-true}
 use Rattle.units.specs.Lists.{orZero, total}
 use Rattle.units.proofs.Tests.{and-true}
 use Rattle.units.proofs.Members.{every-append}
-use Rattle.sharing.specs.Rank.{Part, noPart, partSize, byTime, larger, smallerMinimum, ranked, Rising}
-use Rattle.sharing.specs.Round.{goesRound, round}
-use Rattle.sharing.specs.Lots.{divided, lotSharing}
-use Rattle.sharing.specs.Setter.{setterSharing}
-use Rattle.sharing.proofs.Ranks.{differ-ranked, mem-ranked}
-use Rattle.sharing.proofs.Turns.{turn, taking-le}
-use Rattle.sharing.proofs.LotSharing.{lotShare, lots-map, lots-zero}
-use Rattle.sharing.proofs.SetterSharing.{setterShare, setter-map, setters-zero}
+use Rattle.sharing.specs.Rank.{Part, noPart, Rising}
+use Rattle.sharing.proofs.Methods.{shareBy, by-map, by-none}
 use Rattle.orders.specs.declared.order.Order.{Order}
 use Rattle.orders.specs.declared.order.Taker.{Taker}
 use Rattle.orders.specs.Order.{Visibility, sharesOf, interestOf, minimumOf, priceOf}
 use Rattle.orders.specs.Trading.{isOppositeOf}
 use Rattle.book.specs.Sound.{rising}
 use Rattle.matching.specs.declared.Algorithm.{Algorithm}
-use Rattle.matching.specs.declared.Algorithm.the-variants.{PriceTime, ProRata, PriceSetter}
 use Rattle.matching.specs.declared.Paragraph.{Paragraph}
-use Rattle.matching.specs.declared.Paragraph.the-variants.{Two, Three, Four, Five, Six}
-use Rattle.matching.specs.Paragraph.{Group, groupOf, inGroup, partOf, paragraphs, proRataShares, allot}
+use Rattle.matching.specs.Paragraph.{Group, groupOf, inGroup, partOf, paragraphs, methodOf}
 use Rattle.matching.specs.Take.{used, allocationAt, allocationsAt, allocationsOver}
 use Rattle.matching.proofs.Entries.{shareIn, lookup, Aligned}
 
@@ -73,63 +64,9 @@ module _ (t : Taker) (price : ℕ) (g : Group) where
       let a = and-true (ltb m (o .number)) (rising (o .number) os) r in
       rw (part-number o) (ltb-true m (o .number) (a .0), parts-rising (o .number) os (a .1))
 
--- what a round gives a part
-unfoldable pub roundShare : (Part → Part → Bool) → ℕ → List Part → Part → ℕ
-roundShare before left ps p = goesRound partSize left (ranked before ps) (p .number)
-
--- what pro rata gives a part, with a way to share in paragraph 2
-abbrev pub proRataShare : (ℕ → ℕ → List Part → Part → ℕ) → ℕ → Paragraph → ℕ → List Part → Part → ℕ
-proRataShare share lot Two left ps = share lot (divided left ps) ps
-proRataShare share lot Three left ps = roundShare larger left ps
-proRataShare share lot Four left ps = lotShare lot (divided left ps) ps
-proRataShare share lot Five left ps = roundShare smallerMinimum left ps
-proRataShare share lot Six left ps = roundShare larger left ps
-
 -- what a paragraph gives a part of the shares left
 abbrev pub allotShare : ℕ → Algorithm → Paragraph → ℕ → List Part → Part → ℕ
-allotShare lot PriceTime g left ps = roundShare byTime left ps
-allotShare lot ProRata g left ps = proRataShare lotShare lot g left ps
-allotShare lot PriceSetter g left ps = proRataShare setterShare lot g left ps
-
-round-map : (before : Part → Part → Bool) (left : ℕ) (ps : List Part) → round before partSize left ps ≡ map (roundShare before left ps) ps
-unfolding round roundShare
-round-map before left ps = refl
-
-pro-rata-map : (sharing : ℕ → ℕ → List Part → List ℕ) (share : ℕ → ℕ → List Part → Part → ℕ)
-    → ((lot q : ℕ) (ps : List Part) → sharing lot q ps ≡ map (share lot q ps) ps) → (lot : ℕ) (g : Paragraph) (left : ℕ) (ps : List Part)
-    → proRataShares sharing lot g left ps ≡ map (proRataShare share lot g left ps) ps
-pro-rata-map sharing share h lot Two left ps = h lot (divided left ps) ps
-pro-rata-map sharing share h lot Three left ps = round-map larger left ps
-pro-rata-map sharing share h lot Four left ps = lots-map lot (divided left ps) ps
-pro-rata-map sharing share h lot Five left ps = round-map smallerMinimum left ps
-pro-rata-map sharing share h lot Six left ps = round-map larger left ps
-
--- a paragraph allots part by part
-pub allot-map : (lot : ℕ) (alg : Algorithm) (g : Paragraph) (left : ℕ) (ps : List Part) → allot lot alg g left ps ≡ map (allotShare lot alg g left ps) ps
-allot-map lot PriceTime g left ps = round-map byTime left ps
-allot-map lot ProRata g left ps = pro-rata-map lotSharing lotShare lots-map lot g left ps
-allot-map lot PriceSetter g left ps = pro-rata-map setterSharing setterShare setter-map lot g left ps
-
-module _ (m : ℕ) (ps : List Part) (r : Rising m ps) (p : Part) (i : List·Memᴰ p ps) (z : p .size ≡ 0) where
-  round-none : (before : Part → Part → Bool) (left : ℕ) → roundShare before left ps p ≡ 0
-  unfolding roundShare
-  round-none before left =
-      let t = turn partSize p (ranked before ps) (differ-ranked before m ps r) (mem-ranked before p ps i) left in
-      omega (arith, t .took, taking-le partSize (t .met) p .1)
-
-  pro-rata-none : (share : ℕ → ℕ → List Part → Part → ℕ) → ((lot q : ℕ) → share lot q ps p ≡ 0) → (lot : ℕ) (g : Paragraph) (left : ℕ)
-      → proRataShare share lot g left ps p ≡ 0
-  pro-rata-none share h lot Two left = h lot (divided left ps)
-  pro-rata-none share h lot Three left = round-none larger left
-  pro-rata-none share h lot Four left = lots-zero lot (divided left ps) ps m r p i z
-  pro-rata-none share h lot Five left = round-none smallerMinimum left
-  pro-rata-none share h lot Six left = round-none larger left
-
-  -- a part that has no size gets nothing
-  pub allot-none : (lot : ℕ) (alg : Algorithm) (g : Paragraph) (left : ℕ) → allotShare lot alg g left ps p ≡ 0
-  allot-none lot PriceTime g left = round-none byTime left
-  allot-none lot ProRata g left = pro-rata-none lotShare (λ k q. lots-zero k q ps m r p i z) lot g left
-  allot-none lot PriceSetter g left = pro-rata-none setterShare (λ k q. setters-zero k q m ps r p i z) lot g left
+allotShare lot alg g left ps = shareBy (methodOf alg g) lot left ps
 
 module _ (lot : ℕ) (alg : Algorithm) (t : Taker) (os : List Order) where
   -- the parts of a paragraph at a price
@@ -140,7 +77,7 @@ module _ (lot : ℕ) (alg : Algorithm) (t : Taker) (os : List Order) where
   pub allotted : (price : ℕ) (g : Paragraph) (left : ℕ)
       → allocationAt lot alg t os price g left .allotment ≡ map (allotShare lot alg g left (partsAt price g)) (partsAt price g)
   unfolding allocationAt
-  allotted price g left = allot-map lot alg g left (partsAt price g)
+  allotted price g left = by-map (methodOf alg g) lot left (partsAt price g)
 
   aligned-at : (price : ℕ) (gs : List Paragraph) (left : ℕ) → Aligned os (allocationsAt lot alg t os price gs left)
   unfolding allocationsAt
@@ -167,7 +104,7 @@ module _ (lot : ℕ) (alg : Algorithm) (t : Taker) (os : List Order) where
     pub part-none : partOf t price (groupOf lot alg g) o .size ≡ 0 → allotShare lot alg g left (partsAt price g) (partOf t price (groupOf lot alg g) o) ≡ 0
     part-none z =
         let group = groupOf lot alg g in
-        allot-none 0 (partsAt price g) (parts-rising t price group 0 os rise) (partOf t price group o) (Memᴰ·map (partOf t price group) i) z lot alg g left
+        by-none 0 (partsAt price g) (parts-rising t price group 0 os rise) (partOf t price group o) (Memᴰ·map (partOf t price group) i) z (methodOf alg g) lot left
 
     -- and its entry says so
     pub entry-none : partOf t price (groupOf lot alg g) o .size ≡ 0 → shareIn (o .number) os (allocationAt lot alg t os price g left .allotment) ≡ 0

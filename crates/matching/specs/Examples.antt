@@ -1,7 +1,7 @@
 -- Worked values of take, computed by the checker: through two prices, through all five paragraphs, and refused on bytes.
 use Prim.Native.Nat.{ℕ}
 use mathlib.Core.Path.{_≡_, refl}
-use mathlib.Core.Bool.{Bool, true, false, _&&_}
+use mathlib.Core.Bool.{Bool, true, _&&_}
 use mathlib.Core.List.{List, [], _∷_, map}
 use native.Mathlib.Omega.{arith}
 use lib.ListN.{drop, set, replicate}
@@ -11,46 +11,20 @@ use Rattle.sharing.specs.Round.{goesRound, round}
 use Rattle.sharing.specs.Lots.{lotSharing}
 use Rattle.sharing.specs.Setter.{besideSetter, setterSharing}
 use Rattle.orders.specs.declared.order.Side.the-variants.{Buy, Sell}
-use Rattle.orders.specs.declared.order.Kind.{Kind}
-use Rattle.orders.specs.declared.order.Kind.the-variants.{Displayed, NonDisplayed, MinimumQuantity}
+use Rattle.orders.specs.declared.order.Kind.the-variants.{Displayed, NonDisplayed}
 use Rattle.orders.specs.declared.order.Order.{Order}
+use Rattle.record.specs.declared.execution.Execution.{Execution}
 use Rattle.record.specs.Codec.{encode, decode}
 use Rattle.orders.specs.Order.{sizeOf, withInterest, settled}
 use Rattle.record.specs.Record.{numbersOf, orderOf, numbersSound}
 use Rattle.book.specs.Sound.{sound, ordersOf, bookOf}
 use Rattle.matching.specs.declared.Algorithm.the-variants.{PriceTime, ProRata, PriceSetter}
-use Rattle.matching.specs.declared.incoming.Incoming.{Incoming}
 use Rattle.matching.specs.Levels.{priceLevels}
 use Rattle.matching.specs.Paragraph.{partOf}
 use Rattle.matching.specs.Take.{allocationAt, allocationsAt, allocationsOver, allocations, executionsOf, lossesOf, Outcome, outcome}
 use Rattle.matching.specs.TakeCall.{TakeAnswer, outcomeOf, written, takeCall}
-use Rattle.matching.specs.Fairness.{LotBounds}
-
-sell : Kind → ℕ → ℕ → ℕ → Order
-sell kind n price size = record {
-  side = Sell;
-  kind = kind;
-  number = n;
-  price = record { 0 = price };
-  size = record { 0 = size };
-  setter = false;
-}
-
-buy : ℕ → ℕ → Incoming
-buy limit size = record { taker = record { side = Buy; limit = record { 0 = limit } }; size = record { 0 = size } }
-
-resting : ℕ → ℕ → Order
-resting n price = record {
-  side = Buy;
-  kind = Displayed;
-  number = n;
-  price = record { 0 = price };
-  size = record { 0 = 300 };
-  setter = false;
-}
-
-selling : ℕ → ℕ → Incoming
-selling limit size = record { taker = record { side = Sell; limit = record { 0 = limit } }; size = record { 0 = size } }
+use Rattle.matching.specs.Fairness.{reaching, counted, guaranteed, LotBounds}
+use Rattle.matching.specs.ExampleBooks.{sell, marked, sells, bid, incoming, threePrices, everyKind}
 
 -- an outcome's numbers: of the executions, their orders, prices, shares and paragraphs; the shares left; of the orders that rest, their
 -- numbers and sizes
@@ -73,18 +47,10 @@ holds o d =
     && sameNumbers (map (λ r. r .number) (o .orders)) (d .rest)
     && sameNumbers (map sizeOf (o .orders)) (d .sizes)
 
-twoPrices : List Order
-twoPrices = sell Displayed 1 100100 300 ∷ sell Displayed 2 100000 200 ∷ sell Displayed 3 100200 100 ∷ []
-
-everyKind : List Order
-everyKind =
-    sell Displayed 1 100000 99 ∷ sell NonDisplayed 2 100000 50 ∷ sell (MinimumQuantity (record { 0 = 150 })) 3 100000 200 ∷
-    sell NonDisplayed 4 100000 300 ∷ sell Displayed 5 100000 100 ∷ []
-
 values : List Bool
 values =
     -- best price first, and nothing beyond the limit
-    holds (outcome 100 ProRata (buy 100100 400) twoPrices) (record {
+    holds (outcome 100 ProRata (incoming Buy 100100 400) threePrices) (record {
       orders = 2 ∷ 1 ∷ [];
       prices = 100000 ∷ 100100 ∷ [];
       shares = 200 ∷ 200 ∷ [];
@@ -93,7 +59,7 @@ values =
       rest = 1 ∷ 3 ∷ [];
       sizes = 100 ∷ 100 ∷ [];
     }) ∷
-    holds (outcome 100 PriceSetter (buy 100100 999) twoPrices) (record {
+    holds (outcome 100 PriceSetter (incoming Buy 100100 999) threePrices) (record {
       orders = 2 ∷ 1 ∷ [];
       prices = 100000 ∷ 100100 ∷ [];
       shares = 200 ∷ 300 ∷ [];
@@ -103,7 +69,7 @@ values =
       sizes = 100 ∷ [];
     }) ∷
     -- for an incoming sell the highest price is the best
-    holds (outcome 100 PriceTime (selling 90000 350) (resting 1 100000 ∷ resting 2 100100 ∷ [])) (record {
+    holds (outcome 100 PriceTime (incoming Sell 90000 350) (bid 1 100000 ∷ bid 2 100100 ∷ [])) (record {
       orders = 2 ∷ 1 ∷ [];
       prices = 100100 ∷ 100000 ∷ [];
       shares = 300 ∷ 50 ∷ [];
@@ -113,7 +79,7 @@ values =
       sizes = 250 ∷ [];
     }) ∷
     -- through all paragraphs
-    holds (outcome 100 ProRata (buy 100000 1000) everyKind) (record {
+    holds (outcome 100 ProRata (incoming Buy 100000 1000) everyKind) (record {
       orders = 5 ∷ 1 ∷ 4 ∷ 3 ∷ 2 ∷ [];
       prices = 100000 ∷ 100000 ∷ 100000 ∷ 100000 ∷ 100000 ∷ [];
       shares = 100 ∷ 99 ∷ 300 ∷ 200 ∷ 50 ∷ [];
@@ -122,7 +88,7 @@ values =
       rest = [];
       sizes = [];
     }) ∷
-    holds (outcome 100 PriceTime (buy 100000 700) everyKind) (record {
+    holds (outcome 100 PriceTime (incoming Buy 100000 700) everyKind) (record {
       orders = 1 ∷ 5 ∷ 2 ∷ 3 ∷ 4 ∷ [];
       prices = 100000 ∷ 100000 ∷ 100000 ∷ 100000 ∷ 100000 ∷ [];
       shares = 99 ∷ 100 ∷ 50 ∷ 200 ∷ 251 ∷ [];
@@ -145,13 +111,19 @@ accepted : TakeAnswer → ℕ → ℕ → Bool
 accepted a count left = eqb (a .taken .refusal) 0 && eqb (a .taken .count) count && eqb (a .taken .left) left
 
 book : List ℕ
-book = bookOf 3 twoPrices
+book = bookOf 3 threePrices
 
 damaged : List ℕ
 damaged = set book 95 1
 
 short : List ℕ
 short = replicate 31 7
+
+room : List ℕ
+room = replicate 64 7
+
+withMarked : List ℕ
+withMarked = bookOf 4 (marked 1 300 ∷ sells Displayed 2 (250 ∷ 250 ∷ 200 ∷ []))
 
 calls : List Bool
 calls =
@@ -166,15 +138,48 @@ calls =
     accepted (take 1 100100 200 2 book short) 1 0 ∷
     accepted (take 1 99999 200 2 book []) 0 200 ∷
     accepted (take 1 100000 10 1 [] []) 0 10 ∷
-    sameNumbers (drop 16 (take 1 100100 200 2 book short .executions)) (replicate 15 7) ∷ []
+    sameNumbers (drop 16 (take 1 100100 200 2 book short .executions)) (replicate 15 7) ∷
+    -- algorithms 1, 2 and 3: how many orders of 99 and 100 give 100 shares, and of a setter's 300 and 250, 250, 200 give 500
+    accepted (take 1 100000 100 1 (bookOf 2 (sells Displayed 1 (99 ∷ 100 ∷ []))) room) 2 0 ∷
+    accepted (take 1 100000 100 2 (bookOf 2 (sells Displayed 1 (99 ∷ 100 ∷ []))) room) 1 0 ∷
+    accepted (take 1 100000 500 2 withMarked room) 4 0 ∷
+    accepted (take 1 100000 500 3 withMarked room) 3 0 ∷ []
 
 called : all (λ b. b) calls ≡ true
-unfolding calls short damaged book accepted refused take twoPrices sell takeCall written outcomeOf outcome lossesOf executionsOf allocations allocationsOver allocationsAt allocationAt partOf priceLevels lotSharing round goesRound sound ordersOf bookOf encode decode numbersOf orderOf numbersSound withInterest settled
+unfolding calls short room withMarked damaged book accepted refused take takeCall written outcomeOf outcome lossesOf executionsOf allocations allocationsOver allocationsAt allocationAt partOf priceLevels setterSharing besideSetter lotSharing round goesRound sound ordersOf bookOf encode decode numbersOf orderOf numbersSound withInterest settled
 called = refl
 
 worked : all (λ b. b) values ≡ true
-unfolding values everyKind twoPrices holds resting selling sell buy outcome lossesOf executionsOf allocations allocationsOver allocationsAt allocationAt partOf priceLevels setterSharing besideSetter lotSharing round goesRound withInterest settled
+unfolding values holds outcome lossesOf executionsOf allocations allocationsOver allocationsAt allocationAt partOf priceLevels setterSharing besideSetter lotSharing round goesRound withInterest settled
 worked = refl
+
+-- The demand's words: what reaches each price where 200 were taken at 100000, for a buy and for a sell; what of an order counts at a
+-- price; two fifths, rounded down, or the size.
+taken200 : List Execution
+taken200 = record { number = 2; price = record { 0 = 100000 }; shares = record { 0 = 200 }; paragraph = 2 } ∷ []
+
+counts : ℕ → Order → Bool
+counts n o = eqb (counted 100 (incoming Buy 100100 400) 100000 o) n
+
+words : List Bool
+words =
+    eqb (reaching (incoming Buy 100100 400) taken200 100000) 400 ∷
+    eqb (reaching (incoming Buy 100100 400) taken200 100100) 200 ∷
+    eqb (reaching (incoming Sell 90000 400) taken200 100000) 400 ∷
+    eqb (reaching (incoming Sell 90000 400) taken200 90000) 200 ∷
+    counts 300 (sell Displayed 1 100000 300) ∷
+    counts 100 (sell Displayed 1 100000 100) ∷
+    counts 0 (sell Displayed 1 100000 99) ∷
+    counts 0 (sell NonDisplayed 1 100000 300) ∷
+    counts 0 (sell Displayed 1 100100 300) ∷
+    counts 0 (bid 1 100000) ∷
+    eqb (guaranteed 81 1000) 32 ∷
+    eqb (guaranteed 84 1000) 33 ∷
+    eqb (guaranteed 500 100) 100 ∷ []
+
+worded : all (λ b. b) words ≡ true
+unfolding words counts taken200 reaching counted
+worded = refl
 
 -- the rule's first example keeps the lot bounds, and its largest order reaches the upper one: 500 and a lot of 1,200 shares divided
 reached : LotBounds 100 1200 1300 600 600

@@ -4,4 +4,7 @@ pub mod Paragraph
 pub mod Take
 pub mod TakeCall
 pub mod Fairness
+pub mod ExampleBooks
 pub mod Examples
+pub mod ParagraphExamples
+pub mod Unfair

@@ -3,10 +3,11 @@ use Prim.Native.Nat.{ℕ}
 use mathlib.Core.Bool.{Bool, true, false, cond, not, _&&_}
 use mathlib.Core.List.{List, [], _∷_}
 use lib.Dec.{leb, ltb, eqb}
-use Rattle.sharing.specs.Rank.{Part, noPart, partSize, byTime, larger, smallerMinimum}
-use Rattle.sharing.specs.Round.{round}
-use Rattle.sharing.specs.Lots.{divided, lotSharing}
-use Rattle.sharing.specs.Setter.{setterSharing}
+use Rattle.sharing.specs.declared.Rank.the-variants.{Time, Size, Minimum}
+use Rattle.sharing.specs.declared.Method.{Method}
+use Rattle.sharing.specs.declared.Method.the-variants.{InTurn, Lots, Setter}
+use Rattle.sharing.specs.Rank.{Part, noPart}
+use Rattle.sharing.specs.Method.{allotBy}
 use Rattle.orders.specs.declared.order.Order.{Order}
 use Rattle.orders.specs.declared.order.Taker.{Taker}
 use Rattle.orders.specs.Order.{Visibility, shown, hidden, sharesOf, interestOf, isMinimumQuantity, minimumOf, priceOf}
@@ -39,22 +40,44 @@ pub record Group : Type 0 where
 abbrev group : Visibility → (Bool → ℕ → Bool) → Group
 group v t = record { visibility = v; holds = t }
 
+-- The tests: every order, and none
+abbrev pub everyOrder : Bool → ℕ → Bool
+everyOrder m n = true
+
+abbrev pub noOrder : Bool → ℕ → Bool
+noOrder m n = false
+
+-- a minimum quantity order of any size
+abbrev pub minimumOrder : Bool → ℕ → Bool
+minimumOrder m n = m
+
+-- shares of a lot or more, and below a lot
+abbrev pub ofLot : ℕ → Bool → ℕ → Bool
+ofLot lot m n = leb lot n
+
+abbrev pub belowLot : ℕ → Bool → ℕ → Bool
+belowLot lot m n = ltb n lot
+
+-- the test passes, and the order is no minimum quantity order
+abbrev pub withoutMinimum : (Bool → ℕ → Bool) → Bool → ℕ → Bool
+withoutMinimum test m n = not m && test m n
+
 -- price/time: displayed orders, then all others together
 abbrev pub timeGroup : Paragraph → Group
-timeGroup Two = group shown (λ m n. true)
-timeGroup Three = group hidden (λ m n. true)
-timeGroup Four = group hidden (λ m n. false)
-timeGroup Five = group hidden (λ m n. false)
-timeGroup Six = group hidden (λ m n. false)
+timeGroup Two = group shown everyOrder
+timeGroup Three = group hidden everyOrder
+timeGroup Four = group hidden noOrder
+timeGroup Five = group hidden noOrder
+timeGroup Six = group hidden noOrder
 
 -- pro rata: displayed of a lot or more, displayed below a lot, non-displayed of a lot or more, minimum quantity of any size,
 -- non-displayed below a lot
 abbrev pub proRataGroup : ℕ → Paragraph → Group
-proRataGroup lot Two = group shown (λ m n. leb lot n)
-proRataGroup lot Three = group shown (λ m n. ltb n lot)
-proRataGroup lot Four = group hidden (λ m n. not m && leb lot n)
-proRataGroup lot Five = group hidden (λ m n. m)
-proRataGroup lot Six = group hidden (λ m n. not m && ltb n lot)
+proRataGroup lot Two = group shown (ofLot lot)
+proRataGroup lot Three = group shown (belowLot lot)
+proRataGroup lot Four = group hidden (withoutMinimum (ofLot lot))
+proRataGroup lot Five = group hidden minimumOrder
+proRataGroup lot Six = group hidden (withoutMinimum (belowLot lot))
 
 -- the group of a paragraph; the variation has those of pro rata
 abbrev pub groupOf : ℕ → Algorithm → Paragraph → Group
@@ -73,16 +96,20 @@ partOf t price g o =
     (record { number = o .number; size = sharesOf (g .visibility) (interestOf o); minimum = minimumOf (o .kind); setter = o .setter })
     (noPart (o .number))
 
--- Pro rata: lot sharing in paragraphs 2 and 4, largest first in 3 and 6, smallest minimum first in 5. The variation changes paragraph 2.
-abbrev pub proRataShares : (ℕ → ℕ → List Part → List ℕ) → ℕ → Paragraph → ℕ → List Part → List ℕ
-proRataShares displayedLots lot Two left ps = displayedLots lot (divided left ps) ps
-proRataShares displayedLots lot Three left ps = round larger partSize left ps
-proRataShares displayedLots lot Four left ps = lotSharing lot (divided left ps) ps
-proRataShares displayedLots lot Five left ps = round smallerMinimum partSize left ps
-proRataShares displayedLots lot Six left ps = round larger partSize left ps
+-- pro rata: by lots in paragraphs 2 and 4, largest first in 3 and 6, smallest minimum first in 5
+abbrev pub proRataMethod : Paragraph → Method
+proRataMethod Two = Lots
+proRataMethod Three = InTurn Size
+proRataMethod Four = Lots
+proRataMethod Five = InTurn Minimum
+proRataMethod Six = InTurn Size
 
--- what a paragraph gives each part of the shares left; under price/time, by time
+-- the method of a paragraph: by time under price/time; the variation changes paragraph 2
+abbrev pub methodOf : Algorithm → Paragraph → Method
+methodOf PriceTime g = InTurn Time
+methodOf ProRata g = proRataMethod g
+methodOf PriceSetter g = cond (eqb (paragraphNumber g) 2) Setter (proRataMethod g)
+
+-- what a paragraph gives each part of the shares left
 abbrev pub allot : ℕ → Algorithm → Paragraph → ℕ → List Part → List ℕ
-allot lot PriceTime g left ps = round byTime partSize left ps
-allot lot ProRata g left ps = proRataShares lotSharing lot g left ps
-allot lot PriceSetter g left ps = proRataShares setterSharing lot g left ps
+allot lot alg g left ps = allotBy (methodOf alg g) lot left ps

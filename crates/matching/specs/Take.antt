@@ -78,12 +78,14 @@ pub record Outcome : Type 0 where
   pub left : ℕ
   pub orders : List Order
 
--- a partly filled order keeps what is left of it, and a filled one leaves
+-- of allocations: a partly filled order keeps what is left of it, and a filled one leaves
+abbrev pub yielded : Incoming → List Order → List Allocation → Outcome
+yielded i os rows = record {
+  executions = executionsOf os rows;
+  left = i .size .0 - total used rows;
+  orders = filter isResting (zipWith settled (lossesOf os rows) os);
+}
+
+-- of all that it allots
 unfoldable pub outcome : ℕ → Algorithm → Incoming → List Order → Outcome
-outcome lot alg i os =
-    let rows = allocations lot alg i os in
-    record {
-      executions = executionsOf os rows;
-      left = i .size .0 - total used rows;
-      orders = filter isResting (zipWith settled (lossesOf os rows) os);
-    }
+outcome lot alg i os = yielded i os (allocations lot alg i os)

@@ -1,10 +1,12 @@
 // Taking: an incoming order against a book, under one of three algorithms.
 pub mod incoming;
 
+use sharing::Method;
+use sharing::Rank;
 ghost use mathlib.Core.Path.{_≡_};
 ghost use lib.ListN.{getD};
 ghost use Rattle.matching.specs.declared.Paragraph.the-variants.{Six};
-ghost use Rattle.matching.specs.Paragraph.{algorithmOf, paragraphs, paragraphNumber};
+ghost use Rattle.matching.specs.Paragraph.{algorithmOf, paragraphs, paragraphNumber, proRataMethod, methodOf};
 
 // The execution algorithms of Rule 3307. PriceSetter is pro rata with the variation for price-setting orders.
 pub enum Algorithm {
@@ -69,9 +71,40 @@ impl Paragraph {
             Paragraph::Six => 6,
         }
     }
+
+    // How its group shares under pro rata.
+    fn pro_rata_method(self) -> Method
+        ensures { λ r. ⌜ r ≡ proRataMethod self ⌝ }
+    {
+        match self {
+            Paragraph::Two => Method::Lots,
+            Paragraph::Three => Method::InTurn(Rank::Size),
+            Paragraph::Four => Method::Lots,
+            Paragraph::Five => Method::InTurn(Rank::Minimum),
+            Paragraph::Six => Method::InTurn(Rank::Size),
+        }
+    }
+
+    // How its group shares under an algorithm. The price-setter variation changes paragraph 2.
+    pub fn method(self, algorithm: Algorithm) -> Method
+        ensures { λ r. ⌜ r ≡ methodOf algorithm self ⌝ }
+    {
+        match algorithm {
+            Algorithm::PriceTime => Method::InTurn(Rank::Time),
+            Algorithm::ProRata => self.pro_rata_method(),
+            Algorithm::PriceSetter => {
+                if self.number() == 2 {
+                    Method::Setter
+                } else {
+                    self.pro_rata_method()
+                }
+            }
+        }
+    }
 }
 
 // The numbers that take is given.
+#[repr(C)]
 pub struct TakeRequest {
     pub side: u32,
     pub limit: u32,

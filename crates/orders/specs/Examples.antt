@@ -1,53 +1,173 @@
 -- Worked values of orders and of who may trade, computed by the checker.
 use Prim.Native.Nat.{ℕ}
 use mathlib.Core.Path.{_≡_, refl}
-use mathlib.Core.Bool.{Bool, true, false, not}
+use mathlib.Core.Bool.{Bool, true, not, _&&_}
 use mathlib.Core.List.{List, [], _∷_}
 use lib.Dec.{eqb}
 use Rattle.units.specs.Lists.{all}
 use Rattle.orders.specs.declared.order.Side.{Side}
 use Rattle.orders.specs.declared.order.Side.the-variants.{Buy, Sell}
-use Rattle.orders.specs.declared.order.Kind.the-variants.{MinimumQuantity}
+use Rattle.orders.specs.declared.order.Kind.{Kind}
+use Rattle.orders.specs.declared.order.Kind.the-variants.{Displayed, NonDisplayed, MinimumQuantity}
 use Rattle.orders.specs.declared.order.Order.{Order}
 use Rattle.orders.specs.declared.order.Taker.{Taker}
-use Rattle.orders.specs.Order.{minimumOf, sizeOf, interest, withInterest, settled, isResting, minimumInRange}
-use Rattle.orders.specs.Trading.{isTradable, isPricedBetter}
+use Rattle.orders.specs.Order.{sideNumber, sideOf, kindNumber, kindOf, minimumOf, isDisplayed, isMinimumQuantity, priceOf, sizeOf}
+use Rattle.orders.specs.Order.{numberInRange, priceInRange, sharesInRange, minimumInRange}
+use Rattle.orders.specs.Order.{Interest, shown, hidden, interest, noInterest, sharesOf, onlyOf, allShares, together, less, interestBy}
+use Rattle.orders.specs.Order.{withInterest, settled, isResting}
+use Rattle.orders.specs.Trading.{isOpposite, withinLimit, isBetter, isPricedBetter, isOppositeOf, isTradable, asTaker}
 
--- order 1, a minimum quantity sell of 500 with minimum 400, at 10.00 dollars
-minimum : Order
-minimum = record {
-  side = Sell;
-  kind = MinimumQuantity (record { 0 = 400 });
-  number = 1;
-  price = record { 0 = 100000 };
-  size = record { 0 = 500 };
-  setter = false;
-}
+-- a minimum quantity order whose minimum is 400
+leastOf400 : Kind
+leastOf400 = MinimumQuantity (record { 0 = 400 })
+
+-- sides and kinds by number, and back
+numbers : List Bool
+numbers =
+    eqb (sideNumber Buy) 1 ∷
+    eqb (sideNumber Sell) 2 ∷
+    eqb (sideNumber (sideOf 1)) 1 ∷
+    eqb (sideNumber (sideOf 2)) 2 ∷
+    eqb (kindNumber Displayed) 1 ∷
+    eqb (kindNumber NonDisplayed) 2 ∷
+    eqb (kindNumber leastOf400) 3 ∷
+    eqb (kindNumber (kindOf 1 7)) 1 ∷
+    eqb (kindNumber (kindOf 2 7)) 2 ∷
+    eqb (kindNumber (kindOf 3 7)) 3 ∷
+    -- only a minimum quantity order carries a minimum
+    eqb (minimumOf (kindOf 3 7)) 7 ∷
+    eqb (minimumOf Displayed) 0 ∷
+    eqb (minimumOf NonDisplayed) 0 ∷
+    isDisplayed Displayed ∷
+    not (isDisplayed NonDisplayed) ∷
+    not (isDisplayed leastOf400) ∷
+    isMinimumQuantity leastOf400 ∷
+    not (isMinimumQuantity Displayed) ∷
+    not (isMinimumQuantity NonDisplayed) ∷ []
+
+-- the ends of each range, and one beyond each
+ranges : List Bool
+ranges =
+    numberInRange 1 ∷
+    numberInRange 4294967295 ∷
+    not (numberInRange 0) ∷
+    not (numberInRange 4294967296) ∷
+    priceInRange 1 ∷
+    priceInRange 2000000000 ∷
+    not (priceInRange 0) ∷
+    not (priceInRange 2000000001) ∷
+    sharesInRange 1 ∷
+    sharesInRange 999999 ∷
+    not (sharesInRange 0) ∷
+    not (sharesInRange 1000000) ∷
+    -- a minimum is 1 to the size for kind 3 alone
+    minimumInRange 3 500 1 ∷
+    minimumInRange 3 500 500 ∷
+    not (minimumInRange 3 500 501) ∷
+    not (minimumInRange 3 500 0) ∷
+    minimumInRange 1 500 0 ∷
+    minimumInRange 2 500 0 ∷
+    not (minimumInRange 1 500 1) ∷
+    not (minimumInRange 2 500 1) ∷ []
+
+-- displayed and non-displayed shares
+has : Interest → ℕ → ℕ → Bool
+has i d n = eqb (i .displayed) d && eqb (i .nonDisplayed) n
+
+interests : List Bool
+interests =
+    has (interest 3 5) 3 5 ∷
+    has noInterest 0 0 ∷
+    has (onlyOf shown 7) 7 0 ∷
+    has (onlyOf hidden 7) 0 7 ∷
+    eqb (sharesOf shown (interest 3 5)) 3 ∷
+    eqb (sharesOf hidden (interest 3 5)) 5 ∷
+    eqb (allShares (interest 3 5)) 8 ∷
+    has (together (interest 1 2) (interest 30 50)) 31 52 ∷
+    has (less (interest 30 50) (interest 1 2)) 29 48 ∷
+    -- all that an order has is of one visibility, by its kind
+    has (interestBy Displayed 7) 7 0 ∷
+    has (interestBy NonDisplayed 7) 0 7 ∷
+    has (interestBy leastOf400 7) 0 7 ∷ []
+
+-- order 9, a marked sell of 500 at 10.00 dollars
+order : Kind → Order
+order kind = record { side = Sell; kind = kind; number = 9; price = record { 0 = 100000 }; size = record { 0 = 500 }; setter = true }
+
+-- the order is still order 9, of this kind, size and minimum
+left : Order → ℕ → ℕ → ℕ → Bool
+left o kind size minimum =
+    eqb (sideNumber (o .side)) 2 && eqb (o .number) 9 && eqb (priceOf o) 100000 && o .setter
+    && eqb (kindNumber (o .kind)) kind && eqb (sizeOf o) size && eqb (minimumOf (o .kind)) minimum
+
+-- an order loses shares of its own visibility; a minimum above what is left becomes what is left
+losses : List Bool
+losses =
+    left (settled (interest 450 7) (order Displayed)) 1 50 0 ∷
+    left (settled (interest 7 450) (order NonDisplayed)) 2 50 0 ∷
+    left (settled (interest 7 450) (order leastOf400)) 3 50 50 ∷
+    left (settled (interest 0 50) (order leastOf400)) 3 450 400 ∷
+    -- it stays with a share, and leaves with none
+    isResting (settled (interest 499 0) (order Displayed)) ∷
+    not (isResting (settled (interest 500 0) (order Displayed))) ∷
+    not (isResting (settled (interest 0 500) (order leastOf400))) ∷ []
 
 taker : Side → ℕ → Taker
 taker side limit = record { side = side; limit = record { 0 = limit } }
 
-values : List Bool
-values =
-    -- 450 shares lost: the minimum becomes the 50 that are left; 50 lost: it stays
-    eqb (sizeOf (settled (interest 0 450) minimum)) 50 ∷
-    eqb (minimumOf (settled (interest 0 450) minimum .kind)) 50 ∷
-    eqb (minimumOf (settled (interest 0 50) minimum .kind)) 400 ∷
-    not (isResting (settled (interest 0 500) minimum)) ∷
-    -- a minimum is 1 to the size for kind 3 alone
-    minimumInRange 3 500 500 ∷
-    not (minimumInRange 3 500 501) ∷
-    not (minimumInRange 3 500 0) ∷
-    not (minimumInRange 2 500 1) ∷
-    -- a buy trades with a sell at or below its limit
-    isTradable (taker Buy 100000) minimum ∷
-    not (isTradable (taker Buy 99999) minimum) ∷
-    not (isTradable (taker Sell 100000) minimum) ∷
-    -- a better price is strictly better
+trading : List Bool
+trading =
+    -- a side trades with the other
+    isOpposite Buy Sell ∷
+    isOpposite Sell Buy ∷
+    not (isOpposite Buy Buy) ∷
+    not (isOpposite Sell Sell) ∷
+    -- a buy at its limit or below, a sell at its limit or above
+    withinLimit Buy 100000 100000 ∷
+    withinLimit Buy 100000 99999 ∷
+    not (withinLimit Buy 100000 100001) ∷
+    withinLimit Sell 100000 100000 ∷
+    withinLimit Sell 100000 100001 ∷
+    not (withinLimit Sell 100000 99999) ∷
+    -- better for a taker is lower for a buy; better for a resting order is higher for a buy; equal is neither
+    isBetter Buy 1 2 ∷
+    not (isBetter Buy 2 1) ∷
+    not (isBetter Buy 1 1) ∷
+    isBetter Sell 2 1 ∷
+    not (isBetter Sell 1 2) ∷
+    not (isBetter Sell 1 1) ∷
     isPricedBetter Buy 2 1 ∷
+    not (isPricedBetter Buy 1 2) ∷
+    not (isPricedBetter Buy 1 1) ∷
     isPricedBetter Sell 1 2 ∷
-    not (isPricedBetter Sell 1 1) ∷ []
+    not (isPricedBetter Sell 2 1) ∷
+    not (isPricedBetter Sell 1 1) ∷
+    -- with a resting sell at 100000
+    isOppositeOf (taker Buy 1) (order Displayed) ∷
+    not (isOppositeOf (taker Sell 1) (order Displayed)) ∷
+    isTradable (taker Buy 100000) (order Displayed) ∷
+    not (isTradable (taker Buy 99999) (order Displayed)) ∷
+    not (isTradable (taker Sell 100000) (order Displayed)) ∷
+    -- an order takes at its own price, on its own side
+    eqb (sideNumber (asTaker (order Displayed) .side)) 2 ∷
+    eqb (asTaker (order Displayed) .limit .0) 100000 ∷ []
 
-worked : all (λ b. b) values ≡ true
-unfolding values minimum taker settled withInterest
-worked = refl
+numbers-worked : all (λ b. b) numbers ≡ true
+unfolding numbers leastOf400
+numbers-worked = refl
+
+ranges-worked : all (λ b. b) ranges ≡ true
+unfolding ranges
+ranges-worked = refl
+
+interests-worked : all (λ b. b) interests ≡ true
+unfolding interests has leastOf400
+interests-worked = refl
+
+losses-worked : all (λ b. b) losses ≡ true
+unfolding losses left order leastOf400 settled withInterest
+losses-worked = refl
+
+trading-worked : all (λ b. b) trading ≡ true
+unfolding trading taker order
+trading-worked = refl

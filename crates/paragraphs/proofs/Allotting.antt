@@ -1,36 +1,32 @@
 -- What a paragraph allots to the parts that a level meets.
 use Prim.Native.Nat.{ℕ, _≤_, _<_}
 use mathlib.Core.Path.{_≡_, refl, sym, ap, _∙_}
-use mathlib.Core.Bool.{Bool, true}
+use mathlib.Core.Bool.{true}
 use mathlib.Core.List.{List, [], _∷_, map, map-map}
 use native.Mathlib.Omega.{arith}
 use lib.ListN.{length, getD, take, replicate}
-use lib.Dec.{leb}
 use Rattle.units.specs.declared.Shares.{Shares}
 use Rattle.units.specs.Lists.{total}
-use Rattle.units.proofs.Members.{Every, every-member}
-use Rattle.sharing.specs.Rank.{Part, partSize, byTime, larger, smallerMinimum, Rising}
-use Rattle.sharing.specs.Round.{round}
-use Rattle.sharing.specs.Lots.{divided, lotSharing}
-use Rattle.sharing.specs.Setter.{NoMinimum, OneSetter, setterSharing}
+use Rattle.units.proofs.Members.{Every, every-member, member-every}
+use Rattle.sharing.specs.declared.Method.{Method}
+use Rattle.sharing.specs.declared.Method.the-variants.{InTurn, Lots, Setter}
+use Rattle.sharing.specs.Rank.{Part, partSize, beforeOf, Rising}
+use Rattle.sharing.specs.Lots.{divided}
+use Rattle.sharing.specs.Setter.{NoMinimum, OneSetter}
+use Rattle.sharing.specs.Method.{allotBy, isByLots}
 use Rattle.turns.specs.Members.{partsOf, countsOf}
-use Rattle.sharing.proofs.Ranks.{Weak, by-time, by-size, by-minimum}
-use Rattle.sharing.proofs.Filled.{Filled, round-filled}
+use Rattle.sharing.proofs.Ranks.{by-rank}
+use Rattle.sharing.proofs.Filled.{Filled}
+use Rattle.sharing.proofs.Methods.{by-filled}
 use Rattle.orders.specs.declared.order.Order.{Order}
-use Rattle.orders.specs.declared.order.Taker.{Taker}
-use Rattle.orders.specs.Order.{shown}
 use Rattle.record.proofs.Orders.{OrderSound, order-facts}
 use Rattle.book.specs.Sound.{rising, settersSound, ordersOf}
 use Rattle.book.proofs.Soundness.{OrdersSound, orders-sound}
-use Rattle.matching.specs.declared.Algorithm.{Algorithm}
-use Rattle.matching.specs.declared.Algorithm.the-variants.{PriceTime, ProRata, PriceSetter}
 use Rattle.matching.specs.declared.Paragraph.{Paragraph}
-use Rattle.matching.specs.declared.Paragraph.the-variants.{Two, Three, Four, Five, Six}
-use Rattle.matching.specs.Paragraph.{Group, groupOf, proRataGroup, partOf, proRataShares, allot}
+use Rattle.matching.specs.Paragraph.{partOf, methodOf}
 use Rattle.matching.specs.Take.{allocationAt}
 use Rattle.matching.proofs.Parts.{parts-rising, partsAt}
-use Rattle.matching.proofs.Groups.{one-setter, free-parts, shown-free, hidden-free}
-use Rattle.matching.proofs.Allotting.{allotment-filled}
+use Rattle.matching.proofs.Groups.{one-setter, hasNoMinimum, lots-no-minimum, no-minimum}
 use Rattle.standing.specs.declared.Level.{Level}
 use Rattle.standing.specs.Standing.{groupAt, reachable, partsMet}
 use Rattle.groups.specs.Meeting.{Meets}
@@ -44,38 +40,9 @@ use Rattle.gathering.proofs.Keeping.{gathered-below}
 use Rattle.gathering.proofs.Spreading.{put-kept}
 use Rattle.paragraphs.proofs.Thinning.{Unmarked, kept-one, kept-free, kept-total, kept-rising, allot-kept}
 
--- a group in which no order has a minimum
-abbrev Free : Group → Type 0
-Free group = (t : Taker) (price : ℕ) (os : List Order) → Every (λ p. p .minimum ≡ 0) (map (partOf t price group) os)
-
--- How a group shares: by turns, or without minimums.
-data Way (group : Group) (share : ℕ → List Part → List ℕ) : Type 0 where
-  turns : (before : Part → Part → Bool) → Weak before → ((left : ℕ) (ps : List Part) → share left ps ≡ round before partSize left ps) → Way group share
-  free : Free group → Way group share
-
--- displayed orders have none
-displayed-free : (holds : Bool → ℕ → Bool) → Free (record { visibility = shown; holds = holds })
-displayed-free holds t price os = free-parts t price (record { visibility = shown; holds = holds }) (shown-free holds) os
-
--- pro rata, whatever way it shares in paragraph 2
-pro-rata-way : (displayedLots : ℕ → ℕ → List Part → List ℕ) (lot : ℕ) (g : Paragraph) → Way (proRataGroup lot g) (proRataShares displayedLots lot g)
-pro-rata-way displayedLots lot Two = free (displayed-free (λ m n. leb lot n))
-pro-rata-way displayedLots lot Three = turns larger by-size (λ left ps. refl)
-pro-rata-way displayedLots lot Four = free (λ t price os. free-parts t price (proRataGroup lot Four) (hidden-free (λ n. leb lot n)) os)
-pro-rata-way displayedLots lot Five = turns smallerMinimum by-minimum (λ left ps. refl)
-pro-rata-way displayedLots lot Six = turns larger by-size (λ left ps. refl)
-
--- every paragraph shares in one of the two ways
-way : (lot : ℕ) (alg : Algorithm) (g : Paragraph) → Way (groupOf lot alg g) (allot lot alg g)
-way lot PriceTime g = turns byTime by-time (λ left ps. refl)
-way lot ProRata g = pro-rata-way lotSharing lot g
-way lot PriceSetter g = pro-rata-way setterSharing lot g
-
--- in paragraph 2 no order has a minimum
-two-free : (lot : ℕ) (alg : Algorithm) → Free (groupOf lot alg Two)
-two-free lot PriceTime = displayed-free (λ m n. true)
-two-free lot ProRata = displayed-free (λ m n. leb lot n)
-two-free lot PriceSetter = displayed-free (λ m n. leb lot n)
+-- no order that stands in the paragraph has a minimum
+abbrev Free : Level → Paragraph → Type 0
+Free l g = hasNoMinimum (l .algorithm) g ≡ true
 
 module _ (l : Level) (g : Paragraph) (os : List Order) where
   -- the definition's parts
@@ -87,8 +54,8 @@ module _ (l : Level) (g : Paragraph) (os : List Order) where
   met-parts = sym (map-map (reachable (l .reach .0)) (partOf (l .taker) (l .price .0) (groupAt l g)) os)
 
   -- where none has a minimum all are met
-  met-all : Free (groupAt l g) → partsMet l g os ≡ parts
-  met-all z = met-parts ∙ reach-free (l .reach .0) parts (z (l .taker) (l .price .0) os)
+  met-all : Free l g → partsMet l g os ≡ parts
+  met-all z = met-parts ∙ reach-free (l .reach .0) parts (no-minimum (l .lot .0) (l .algorithm) g z (l .taker) (l .price .0) os)
 
   -- the numbers of the parts that are met rise
   met-rising : rising 0 os ≡ true → Rising 0 (partsMet l g os)
@@ -98,11 +65,15 @@ module _ (l : Level) (g : Paragraph) (os : List Order) where
   met-one : settersSound os ≡ true → OneSetter (partsMet l g os)
   met-one setters = rw met-parts (reach-one (l .reach .0) parts (one-setter (l .taker) (l .price .0) (groupAt l g) os setters))
 
--- in paragraph 2 none of them has a minimum
-met-free : (l : Level) (g : Paragraph) (os : List Order) → g ≡ Two → NoMinimum (partsMet l g os)
+-- how the paragraph shares
+abbrev method : Level → Paragraph → Method
+method l g = methodOf (l .algorithm) g
+
+-- where it shares by lots none of them has a minimum
+met-free : (l : Level) (g : Paragraph) (os : List Order) → isByLots (method l g) ≡ true → NoMinimum (partsMet l g os)
 met-free l g os e =
-    let z = two-free (l .lot .0) (l .algorithm) in
-    rw (e, met-all l Two os z) (every-member (λ p. p .minimum ≡ 0) (parts l Two os) (z (l .taker) (l .price .0) os))
+    let z = lots-no-minimum (l .algorithm) g e in
+    rw (met-all l g os z) (every-member (λ p. p .minimum ≡ 0) (parts l g os) (no-minimum (l .lot .0) (l .algorithm) g z (l .taker) (l .price .0) os))
 
 -- each minimum is within the size
 least : (l : Level) (g : Paragraph) (os : List Order) → Every OrderSound os → Every (λ p. p .minimum ≤ p .size) (partsMet l g os)
@@ -111,7 +82,7 @@ least l g (o ∷ os) s = (met-least l g o (order-facts o (s .0) .minimum-most), 
 
 -- what a paragraph gives the parts of the shares left
 abbrev given : Level → Paragraph → ℕ → List Part → List ℕ
-given l g left ps = allot (l .lot .0) (l .algorithm) g left ps
+given l g left ps = allotBy (method l g) (l .lot .0) left ps
 
 -- what the definition allots
 abbrev allotted : Level → Paragraph → List Order → ℕ → List ℕ
@@ -122,28 +93,28 @@ module _ (l : Level) (g : Paragraph) (os : List Order) (s : OrdersSound os) (lef
   -- the parts that are met are allotted what the definition's parts are
   met-allotted : given l g left (partsMet l g os) ≡ allotted l g os left
   unfolding allocationAt
-  met-allotted = go (way (l .lot .0) (l .algorithm) g)
+  met-allotted = go (method l g) refl
     where
       ps : List Part
       ps = parts l g os
 
-      go : Way (groupAt l g) (given l g) → given l g left (partsMet l g os) ≡ given l g left ps
-      go (turns before w e) =
-          ap (given l g left) (met-parts l g os) ∙ e left (map (reachable (l .reach .0)) ps)
-          ∙ reach-round (l .reach .0) before w 0 ps (parts-rising (l .taker) (l .price .0) (groupAt l g) 0 os (s .rise)) left h ∙ sym (e left ps)
-      go (free z) = ap (given l g left) (met-all l g os z)
+      free : isByLots (method l g) ≡ true → given l g left (partsMet l g os) ≡ given l g left ps
+      free e = ap (given l g left) (met-all l g os (lots-no-minimum (l .algorithm) g e))
+
+      go : (way : Method) → method l g ≡ way → given l g left (partsMet l g os) ≡ given l g left ps
+      go (InTurn rank) e =
+          ap (λ w. allotBy w (l .lot .0) left (partsMet l g os)) e ∙ ap (allotBy (InTurn rank) (l .lot .0) left) (met-parts l g os)
+          ∙ reach-round (l .reach .0) (beforeOf rank) (by-rank rank) 0 ps (parts-rising (l .taker) (l .price .0) (groupAt l g) 0 os (s .rise)) left h
+          ∙ sym (ap (λ w. allotBy w (l .lot .0) left ps) e)
+      go Lots e = free (ap isByLots e)
+      go Setter e = free (ap isByLots e)
 
   module _ (hasLot : 0 < l .lot .0) where
     -- what they are given fills them as far as it goes
     met-filled : Filled left (partsMet l g os) (given l g left (partsMet l g os))
-    unfolding allocationAt
-    met-filled = go (way (l .lot .0) (l .algorithm) g)
-      where
-        go : Way (groupAt l g) (given l g) → Filled left (partsMet l g os) (given l g left (partsMet l g os))
-        go (turns before w e) = rw (e left (partsMet l g os)) (round-filled before 0 (partsMet l g os) (met-rising l g os (s .rise)) left)
-        go (free z) =
-            rw (met-all l g os z)
-            (allotment-filled (l .lot .0) hasLot (l .taker) os (s .rise) (s .setters) (l .price .0) left (l .algorithm) g)
+    met-filled =
+        by-filled 0 (partsMet l g os) (met-rising l g os (s .rise)) (method l g)
+        (λ e. member-every (λ p. p .minimum ≡ 0) (partsMet l g os) (met-free l g os e)) (l .lot .0) hasLot (met-one l g os (s .setters)) left
 
     -- where they fit into the shares left, each is filled
     met-whole : total partSize (partsMet l g os) ≤ left → map partSize (partsMet l g os) ≡ allotted l g os left
@@ -174,7 +145,7 @@ module _ {l : Level} {s ranks : List ℕ} (m : Meets l s ranks) (g : Paragraph) 
 
   module _ (left : ℕ) where
     -- they can share fewer shares than the group's total
-    pub met-shareable : {q : Gathered} → Gathers met q → left ≤ total partSize met → Shareable (q .count) (q .members) g left (l .lot .0)
+    pub met-shareable : {q : Gathered} → Gathers met q → left ≤ total partSize met → Shareable (q .count) (q .members) (method l g) left (l .lot .0)
     met-shareable e h =
         let os = ordersOf s in
         let o = orders-sound s (m .isSound) in
@@ -200,7 +171,7 @@ module _ {l : Level} {s ranks : List ℕ} (m : Meets l s ranks) (g : Paragraph) 
           → countsOf (length ranks) xs ≡ allotted l g (ordersOf s) left
       shares-allotted e z put =
           let o = orders-sound s (m .isSound) in
-          let same = allot-kept met unmarked (met-rising l g (ordersOf s) (o .rise)) (l .lot .0) (l .algorithm) g left in
+          let same = allot-kept met unmarked (met-rising l g (ordersOf s) (o .rise)) (method l g) (l .lot .0) left in
           put (length ranks) (records m .few)
           ∙ rw (e .places, z, e .parts, same .kept, ← met-length m g) (put-kept (same .share) met (same .zero))
           ∙ sym (same .whole) ∙ met-allotted l g (ordersOf s) o left h

@@ -7,17 +7,13 @@ use native.Mathlib.Omega.{arith}
 use borrow.Author.Tests.{ltb-false}
 use Rattle.units.specs.Lists.{consIf, total}
 use Rattle.units.proofs.Members.{Every, filter-member}
-use Rattle.sharing.specs.Rank.{Part, partSize, byTime, larger, smallerMinimum, Rising}
-use Rattle.sharing.specs.Lots.{divided, lotSharing}
-use Rattle.sharing.specs.Setter.{NoMinimum, OneSetter, setterSharing}
-use Rattle.sharing.proofs.Ranks.{by-time, by-size, by-minimum}
+use Rattle.sharing.specs.declared.Method.{Method}
+use Rattle.sharing.specs.Rank.{Part, partSize, Rising}
+use Rattle.sharing.specs.Setter.{NoMinimum, OneSetter}
+use Rattle.sharing.specs.Method.{allotBy}
 use Rattle.sharing.proofs.Thin.{Thin, thin-total, thin-rising}
-use Rattle.sharing.proofs.Zeros.{Nothing, SameShares, round-zeros, lots-zeros, setter-zeros}
-use Rattle.matching.specs.declared.Algorithm.{Algorithm}
-use Rattle.matching.specs.declared.Algorithm.the-variants.{PriceTime, ProRata, PriceSetter}
-use Rattle.matching.specs.declared.Paragraph.{Paragraph}
-use Rattle.matching.specs.declared.Paragraph.the-variants.{Two, Three, Four, Five, Six}
-use Rattle.matching.specs.Paragraph.{proRataShares, allot}
+use Rattle.sharing.proofs.Zeros.{Nothing, SameShares}
+use Rattle.sharing.proofs.Methods.{by-zeros}
 use Rattle.gathering.specs.Gathering.{hasShares, kept}
 
 -- at most one of those kept is the setter
@@ -53,18 +49,6 @@ module _ (ps : List Part) (a : Every Unmarked ps) where
     pub kept-rising : Rising 0 (kept ps)
     kept-rising = thin-rising 0 (thin-kept ps a) r
 
-    pro-rata-kept : (displayedLots : ℕ → ℕ → List Part → List ℕ) (lot : ℕ)
-        → ((q : ℕ) → SameShares ps (kept ps) (displayedLots lot q ps) (displayedLots lot q (kept ps))) → (g : Paragraph) (left : ℕ)
-        → SameShares ps (kept ps) (proRataShares displayedLots lot g left ps) (proRataShares displayedLots lot g left (kept ps))
-    pro-rata-kept displayedLots lot same Two left = rw kept-total (same (divided left (kept ps)))
-    pro-rata-kept displayedLots lot same Three left = round-zeros (thin-kept ps a) 0 r larger by-size partSize (λ p e. e) left
-    pro-rata-kept displayedLots lot same Four left = rw kept-total (lots-zeros (thin-kept ps a) 0 r lot (divided left (kept ps)))
-    pro-rata-kept displayedLots lot same Five left = round-zeros (thin-kept ps a) 0 r smallerMinimum by-minimum partSize (λ p e. e) left
-    pro-rata-kept displayedLots lot same Six left = round-zeros (thin-kept ps a) 0 r larger by-size partSize (λ p e. e) left
-
-    -- what a paragraph gives them is what it gives them among all
-    pub allot-kept : (lot : ℕ) (alg : Algorithm) (g : Paragraph) (left : ℕ)
-        → SameShares ps (kept ps) (allot lot alg g left ps) (allot lot alg g left (kept ps))
-    allot-kept lot PriceTime g left = round-zeros (thin-kept ps a) 0 r byTime by-time partSize (λ p e. e) left
-    allot-kept lot ProRata g left = pro-rata-kept lotSharing lot (lots-zeros (thin-kept ps a) 0 r lot) g left
-    allot-kept lot PriceSetter g left = pro-rata-kept setterSharing lot (setter-zeros (thin-kept ps a) 0 r lot) g left
+    -- what a method gives them is what it gives them among all
+    pub allot-kept : (method : Method) (lot left : ℕ) → SameShares ps (kept ps) (allotBy method lot left ps) (allotBy method lot left (kept ps))
+    allot-kept method lot left = by-zeros 0 ps r (thin-kept ps a) method lot left

@@ -1,9 +1,8 @@
 // What a paragraph allots at a price level.
-use matching::Algorithm;
 use matching::Paragraph;
+use sharing::Method;
 use standing::Level;
 use turns::Member;
-use turns::Rank;
 use units::Shares;
 ghost use mathlib.Core.Path.{_≡_};
 ghost use Prim.Native.Nat.{_≤_};
@@ -11,71 +10,28 @@ ghost use lib.ListN.{length};
 ghost use Rattle.units.specs.Lists.{total};
 ghost use Rattle.sharing.specs.Rank.{partSize};
 ghost use Rattle.turns.specs.Members.{partsOf, countsOf};
-ghost use Rattle.matching.specs.declared.Algorithm.the-variants.{ProRata, PriceSetter};
-ghost use Rattle.matching.specs.Paragraph.{allot};
+ghost use Rattle.sharing.specs.Method.{allotBy};
 ghost use Rattle.matching.specs.Take.{allocationAt};
 ghost use Rattle.book.specs.Sound.{ordersOf};
 ghost use Rattle.standing.specs.Standing.{partsMet};
 ghost use Rattle.groups.specs.Meeting.{Meets};
 ghost use Rattle.paragraphs.specs.Shareable.{Shareable};
 
-// How a group shares the shares left, fewer than its total, under pro rata.
-fn pro_rata(
-    group: [Member; 256],
-    n: usize,
-    paragraph: Paragraph,
-    left: Shares,
-    lot: Shares,
-) -> [Shares; 256]
-    requires { ⌜ Shareable n group paragraph (left .0) (lot .0) ⌝ }
-    ensures { λ r. ⌜ countsOf n r ≡ allot (lot .0) ProRata paragraph (left .0) (partsOf n group) ⌝ }
-{
-    match paragraph {
-        Paragraph::Two => lots::lot_sharing(group, n, left, lot),
-        Paragraph::Three => rounds::by_rank(group, n, Rank::Size, left),
-        Paragraph::Four => lots::lot_sharing(group, n, left, lot),
-        Paragraph::Five => rounds::by_rank(group, n, Rank::Minimum, left),
-        Paragraph::Six => rounds::by_rank(group, n, Rank::Size, left),
-    }
-}
-
-// And with the price-setter variation, which changes paragraph 2.
-fn price_setter(
-    group: [Member; 256],
-    n: usize,
-    paragraph: Paragraph,
-    left: Shares,
-    lot: Shares,
-) -> [Shares; 256]
-    requires { ⌜ Shareable n group paragraph (left .0) (lot .0) ⌝ }
-    ensures { λ r. ⌜ countsOf n r ≡ allot (lot .0) PriceSetter paragraph (left .0) (partsOf n group) ⌝ }
-{
-    match paragraph {
-        Paragraph::Two => setter::setter_sharing(group, n, left, lot),
-        Paragraph::Three => pro_rata(group, n, paragraph, left, lot),
-        Paragraph::Four => pro_rata(group, n, paragraph, left, lot),
-        Paragraph::Five => pro_rata(group, n, paragraph, left, lot),
-        Paragraph::Six => pro_rata(group, n, paragraph, left, lot),
-    }
-}
-
 // How a group shares the shares left, fewer than its total.
 fn shared(
     group: [Member; 256],
     n: usize,
-    level: Level,
-    paragraph: Paragraph,
+    method: Method,
     left: Shares,
+    lot: Shares,
 ) -> [Shares; 256]
-    requires { ⌜ Shareable n group paragraph (left .0) (level .lot .0) ⌝ }
-    ensures { λ r. ⌜ countsOf n r ≡ allot (level .lot .0) (level .algorithm) paragraph (left .0) (partsOf n group) ⌝ }
+    requires { ⌜ Shareable n group method (left .0) (lot .0) ⌝ }
+    ensures { λ r. ⌜ countsOf n r ≡ allotBy method (lot .0) (left .0) (partsOf n group) ⌝ }
 {
-    let lot = level.lot;
-    let algorithm = level.algorithm;
-    match algorithm {
-        Algorithm::PriceTime => rounds::by_rank(group, n, Rank::Time, left),
-        Algorithm::ProRata => pro_rata(group, n, paragraph, left, lot),
-        Algorithm::PriceSetter => price_setter(group, n, paragraph, left, lot),
+    match method {
+        Method::InTurn(rank) => rounds::by_rank(group, n, rank, left),
+        Method::Lots => lots::lot_sharing(group, n, left, lot),
+        Method::Setter => setter::setter_sharing(group, n, left, lot),
     }
 }
 
@@ -101,6 +57,9 @@ pub fn allotment(
     let count = gathered.count;
     let places = gathered.places;
     let members = gathered.members;
-    let shares = shared(members, count, level, paragraph, left);
+    let algorithm = level.algorithm;
+    let lot = level.lot;
+    let method = paragraph.method(algorithm);
+    let shares = shared(members, count, method, left, lot);
     gathering::spread(shares, places, count)
 }

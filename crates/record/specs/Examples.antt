@@ -2,15 +2,16 @@
 use Prim.Native.Nat.{ℕ}
 use mathlib.Core.Path.{_≡_, refl}
 use mathlib.Core.Bool.{Bool, true, not}
-use mathlib.Core.List.{List, [], _∷_}
+use mathlib.Core.List.{List, [], _∷_, _++_, map}
 use lib.ListN.{set}
 use lib.Dec.{eqb}
-use Rattle.units.specs.Lists.{all, sameNumbers}
+use Rattle.units.specs.Lists.{all, orZero, sameNumbers}
+use Rattle.orders.specs.Order.{sideNumber, kindNumber, minimumOf, priceOf, sizeOf}
 use Rattle.orders.specs.declared.order.Order.{Order}
 use Rattle.record.specs.declared.execution.Execution.{Execution}
-use Rattle.record.specs.Codec.{formBytes, encode, decode}
+use Rattle.record.specs.Codec.{replaced, formBytes, encode, decode}
 use Rattle.record.specs.Record.{orderForm, numbersOf, orderOf, numbersSound, encodeOrder, decodeOrder, recordSound}
-use Rattle.record.specs.Execution.{executionBytes, encodeExecution, executionOf, decodeExecution}
+use Rattle.record.specs.Execution.{executionBytes, encodeExecution, executionOf, decodeExecution, executionsIn}
 
 -- order 258, a displayed sell of 600 at 10.00 dollars that set the price
 setter : List ℕ
@@ -18,9 +19,22 @@ setter =
     0x4f ∷ 0x42 ∷ 2 ∷ 1 ∷ 2 ∷ 1 ∷ 0 ∷ 0 ∷ 0xa0 ∷ 0x86 ∷ 1 ∷ 0 ∷ 0x58 ∷ 2 ∷ 0 ∷ 0 ∷ 0 ∷ 0 ∷ 0 ∷ 0 ∷ 1 ∷ 0 ∷ 0 ∷ 0 ∷ 0 ∷ 0 ∷ 0 ∷ 0 ∷ 0 ∷
     0 ∷ 0 ∷ 0 ∷ []
 
--- order 1, a minimum quantity sell of 500 with minimum 400
-minimum : Order
-minimum = orderOf (2 ∷ 3 ∷ 1 ∷ 100000 ∷ 500 ∷ 400 ∷ 0 ∷ 0 ∷ 0 ∷ 0 ∷ [])
+-- the same without the mark
+unmarked : List ℕ
+unmarked = set setter 20 0
+
+-- order 1, a minimum quantity sell of 500
+ofMinimum : ℕ → Order
+ofMinimum m = orderOf (2 ∷ 3 ∷ 1 ∷ 100000 ∷ 500 ∷ m ∷ 0 ∷ 0 ∷ 0 ∷ 0 ∷ [])
+
+-- an order's side, kind, number, price, size, minimum and mark
+reads : Order → List ℕ → Bool
+reads o =
+    sameNumbers (sideNumber (o .side) ∷ kindNumber (o .kind) ∷ o .number ∷ priceOf o ∷ sizeOf o ∷ minimumOf (o .kind) ∷ orZero (o .setter) 1 ∷ [])
+
+-- an execution's number, price, shares and paragraph
+tells : Execution → List ℕ → Bool
+tells e = sameNumbers (e .number ∷ e .price .0 ∷ e .shares .0 ∷ e .paragraph ∷ [])
 
 execution : Execution
 execution = record { number = 3; price = record { 0 = 100000 }; shares = record { 0 = 500 }; paragraph = 2 }
@@ -32,21 +46,39 @@ values =
     eqb executionBytes 16 ∷
     recordSound orderForm setter ∷
     sameNumbers (encodeOrder orderForm (decodeOrder orderForm setter)) setter ∷
-    recordSound orderForm (encodeOrder orderForm minimum) ∷
-    -- every byte counts: mark, side, kind, number, price, size, minimum, setter mark, the last byte
+    recordSound orderForm (encodeOrder orderForm (ofMinimum 400)) ∷
+    -- a buy; an order of kind 2 without a mark; a minimum that is the size
+    recordSound orderForm (set setter 2 1) ∷
+    recordSound orderForm (set unmarked 3 2) ∷
+    recordSound orderForm (encodeOrder orderForm (ofMinimum 500)) ∷
+    -- every byte counts: mark, side, kind, number, price, size, minimum, setter mark, and each byte behind it
     not (recordSound orderForm (set setter 1 0)) ∷
+    not (recordSound orderForm (set setter 0 0)) ∷
+    not (recordSound orderForm (set setter 2 0)) ∷
     not (recordSound orderForm (set setter 2 3)) ∷
-    not (recordSound orderForm (set setter 3 4)) ∷
+    not (recordSound orderForm (set unmarked 3 0)) ∷
+    not (recordSound orderForm (set unmarked 3 4)) ∷
     not (recordSound orderForm (set (set setter 4 0) 5 0)) ∷
     not (recordSound orderForm (set setter 11 0x78)) ∷
     not (recordSound orderForm (set setter 14 16)) ∷
     not (recordSound orderForm (set setter 16 1)) ∷
     not (recordSound orderForm (set setter 20 2)) ∷
     not (recordSound orderForm (set setter 3 2)) ∷
-    not (recordSound orderForm (set setter 31 1)) ∷
+    not (recordSound orderForm (encodeOrder orderForm (ofMinimum 501))) ∷
+    not (recordSound orderForm (encodeOrder orderForm (ofMinimum 0))) ∷
+    all (λ n. not (recordSound orderForm (set setter n 1))) (21 ∷ 22 ∷ 23 ∷ 24 ∷ 25 ∷ 26 ∷ 27 ∷ 28 ∷ 29 ∷ 30 ∷ 31 ∷ []) ∷
+    -- what its numbers say
+    reads (decodeOrder orderForm setter) (2 ∷ 1 ∷ 258 ∷ 100000 ∷ 600 ∷ 0 ∷ 1 ∷ []) ∷
+    reads (decodeOrder orderForm (encodeOrder orderForm (ofMinimum 400))) (2 ∷ 3 ∷ 1 ∷ 100000 ∷ 500 ∷ 400 ∷ 0 ∷ []) ∷
     sameNumbers (encodeExecution execution) (0x45 ∷ 0x58 ∷ 0 ∷ 0 ∷ 3 ∷ 0 ∷ 0 ∷ 0 ∷ 0xa0 ∷ 0x86 ∷ 1 ∷ 0 ∷ 0xf4 ∷ 1 ∷ 0 ∷ 0 ∷ []) ∷
-    sameNumbers (encodeExecution (decodeExecution (encodeExecution execution))) (encodeExecution execution) ∷ []
+    sameNumbers (encodeExecution (decodeExecution (encodeExecution execution))) (encodeExecution execution) ∷
+    -- the third byte is read as the paragraph
+    tells (decodeExecution (set (encodeExecution execution) 2 5)) (3 ∷ 100000 ∷ 500 ∷ 5 ∷ []) ∷
+    -- two executions, one behind the other
+    sameNumbers (map (λ e. e .number) (executionsIn 2 (encodeExecution execution ++ set (encodeExecution execution) 4 7))) (3 ∷ 7 ∷ []) ∷
+    -- bytes in the place of others
+    sameNumbers (replaced 1 (8 ∷ 9 ∷ []) (1 ∷ 2 ∷ 3 ∷ 4 ∷ [])) (1 ∷ 8 ∷ 9 ∷ 4 ∷ []) ∷ []
 
 worked : all (λ b. b) values ≡ true
-unfolding values setter minimum execution encode decode numbersOf orderOf numbersSound executionOf
+unfolding values setter unmarked ofMinimum reads tells execution encode decode numbersOf orderOf numbersSound executionOf
 worked = refl

@@ -12,11 +12,11 @@ executionForm = record { mark = 0x45 ∷ 0x58 ∷ []; widths = 1 ∷ 1 ∷ 4 ∷
 abbrev pub executionBytes : ℕ
 executionBytes = formBytes executionForm
 
--- the paragraph of the rule has no place in the bytes
+-- its bytes; the paragraph of the rule has no place in them, and two zeros stand there
 abbrev pub encodeExecution : Execution → List ℕ
 encodeExecution e = encode executionForm (0 ∷ 0 ∷ e .number ∷ e .price .0 ∷ e .shares .0 ∷ [])
 
--- the execution that its numbers say
+-- the execution that its numbers say; of what was written its paragraph reads 0
 unfoldable pub executionOf : List ℕ → Execution
 executionOf ns = record {
   number = getD ns 2 0;

@@ -26,8 +26,8 @@ pub fn bytes_of(execution: Execution) -> [u8; 16]
     let p = bytes::u32_bytes(price.0);
     let s = bytes::u32_bytes(shares.0);
     [
-        69,
-        88,
+        0x45,
+        0x58,
         0,
         0,
         n[0],

@@ -15,14 +15,14 @@ use Rattle.units.specs.Lists.{orZero, zipWith}
 use Rattle.units.proofs.Tests.{pick-least}
 use Rattle.units.proofs.Members.{Every, every-weaken, every-both}
 use Rattle.turns.specs.declared.Member.{Member}
-use Rattle.turns.specs.declared.Rank.{Rank}
-use Rattle.sharing.specs.Rank.{Part, noPart, ranked, Rising}
+use Rattle.sharing.specs.declared.Rank.{Rank}
+use Rattle.sharing.specs.Rank.{Part, noPart, beforeOf, ranked, Rising}
 use Rattle.sharing.specs.Round.{taking, goesRound, round}
-use Rattle.turns.specs.Members.{partsOf, countOf, countsOf, beforeOf}
+use Rattle.turns.specs.Members.{partsOf, countOf, sharesAt, countsOf}
 use Rattle.turns.specs.Keys.{turnKeys}
 use Rattle.turns.proofs.Fronts.{front-next, every-at, every-map, sums-at, zero-sums}
 use Rattle.sharing.proofs.Ranks.{rising-above, Pairwise, Differ}
-use Rattle.turns.proofs.Places.{noMember, noShares, sharesAt, Small, parts-length, part-at, counts-map}
+use Rattle.turns.proofs.Places.{noMember, noShares, Small, parts-length, part-at, counts-map}
 use Rattle.turns.proofs.KeyOrder.{named, keys-within, keys-apart, keys-round}
 
 -- the order number at a place of a group

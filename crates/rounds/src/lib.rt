@@ -1,16 +1,16 @@
 // Shares go round once: each member in its turn takes what it wants of what remains.
+use sharing::Rank;
 use turns::Member;
-use turns::Rank;
 use units::Shares;
 ghost use mathlib.Core.Path.{_≡_};
 ghost use mathlib.Core.List.{map};
 ghost use Prim.Native.Nat.{ℕ, _+_, _-_, _^_, _≤_, _<_, min};
 ghost use lib.Dec.{leb};
-ghost use lib.ListN.{getD, replicate};
+ghost use lib.ListN.{replicate};
 ghost use Rattle.units.specs.Lists.{orZero, zipWith};
-ghost use Rattle.sharing.specs.Rank.{Part, partSize, Rising};
+ghost use Rattle.sharing.specs.Rank.{Part, partSize, beforeOf, Rising};
 ghost use Rattle.sharing.specs.Round.{round};
-ghost use Rattle.turns.specs.Members.{partsOf, countOf, countsOf, beforeOf};
+ghost use Rattle.turns.specs.Members.{partsOf, sharesAt, countsOf};
 
 // An allotment of nothing.
 pub fn no_shares() -> [Shares; 256]
@@ -52,7 +52,7 @@ pub fn go_round(
 ) -> [Shares; 256]
     requires { ⌜ (n ≤ 256)
         × Rising 0 (partsOf n group)
-        × ((i : ℕ) → i < n → countOf (getD has i (record { 0 = 0 })) + countOf (getD wants i (record { 0 = 0 })) < 2 ^ 32) ⌝ }
+        × ((i : ℕ) → i < n → sharesAt has i + sharesAt wants i < 2 ^ 32) ⌝ }
     ensures { λ r. ⌜ ((want : Part → ℕ) → countsOf n wants ≡ map want (partsOf n group)
         → ((p : Part) → p .size ≡ 0 → want p ≡ 0)
         → countsOf n r ≡ zipWith _+_ (countsOf n has) (round (beforeOf rank) want (left .0) (partsOf n group))) ⌝ }
@@ -70,7 +70,7 @@ pub fn go_round(
         let want = wants[i];
         let had = shares[i];
         let taken = taking(minimum, want, remains);
-        shares[i] = Shares(had.0 + taken.0);
+        shares[i] = units::sum(had, taken);
         remains = remaining(minimum, want, remains);
         k += 1;
     }

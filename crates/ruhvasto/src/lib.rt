@@ -1,6 +1,8 @@
-// The five calls under the names and in the shapes that C has (include/ruhvasto.h).
+// The five calls under the names and in the shapes that C has (include/ruhvasto.h), and the version of that interface.
 use book::Checked;
 use book::Found;
+use entry::admission::AddRequest;
+use matching::TakeRequest;
 use matching::Taken;
 ghost use mathlib.Core.Path.{_≡_};
 ghost use mathlib.Core.Bool.{true};
@@ -12,6 +14,14 @@ ghost use Rattle.entry.specs.Add.{addCall};
 ghost use Rattle.entry.specs.Reduce.{reduceCall};
 ghost use Rattle.matching.specs.TakeCall.{takeCall};
 ghost use Rattle.matching.specs.Fairness.{FairTake};
+
+// The version of the interface, as the header's RUHVASTO_VERSION.
+#[no_mangle]
+pub extern "C" fn ruhvasto_version() -> u32
+    ensures { λ r. ⌜ r ≡ 2 ⌝ }
+{
+    2
+}
 
 // Whether the book is sound, and how many orders it has.
 #[no_mangle]
@@ -32,20 +42,12 @@ pub extern "C" fn ruhvasto_find(book: &[u8], number: u32) -> Found
 
 // An order is put last in the book.
 #[no_mangle]
-pub extern "C" fn ruhvasto_add(
-    book: &mut [u8],
-    side: u32,
-    kind: u32,
-    number: u32,
-    price: u32,
-    size: u32,
-    minimum: u32,
-) -> u32
-    ensures refused { λ r. ⌜ r ≡ addCall (record { side = side; kind = kind; number = number; price = price; size = size; minimum = minimum }) (now (book .entry)) .refusal ⌝ }
-    ensures bytes { λ r. ⌜ now (book .exit) ≡ addCall (record { side = side; kind = kind; number = number; price = price; size = size; minimum = minimum }) (now (book .entry)) .book ⌝ }
+pub extern "C" fn ruhvasto_add(book: &mut [u8], request: AddRequest) -> u32
+    ensures refused { λ r. ⌜ r ≡ addCall request (now (book .entry)) .refusal ⌝ }
+    ensures bytes { λ r. ⌜ now (book .exit) ≡ addCall request (now (book .entry)) .book ⌝ }
     ensures kept_sound { λ r. ⌜ (r ≡ 0 → sound (now (book .exit)) ≡ true) ⌝ }
 {
-    entry::add(book, side, kind, number, price, size, minimum)
+    entry::add(book, request)
 }
 
 // The order of this number loses shares; without any it leaves the book.
@@ -63,16 +65,13 @@ pub extern "C" fn ruhvasto_reduce(book: &mut [u8], number: u32, shares: u32) -> 
 pub extern "C" fn ruhvasto_take(
     book: &mut [u8],
     executions: &mut [u8],
-    side: u32,
-    limit: u32,
-    size: u32,
-    algorithm: u32,
+    request: TakeRequest,
 ) -> Taken
-    ensures taken { λ r. ⌜ r ≡ takeCall (record { side = side; limit = limit; size = size; algorithm = algorithm }) (now (book .entry)) (now (executions .entry)) .taken ⌝ }
-    ensures book_bytes { λ r. ⌜ now (book .exit) ≡ takeCall (record { side = side; limit = limit; size = size; algorithm = algorithm }) (now (book .entry)) (now (executions .entry)) .book ⌝ }
-    ensures execution_bytes { λ r. ⌜ now (executions .exit) ≡ takeCall (record { side = side; limit = limit; size = size; algorithm = algorithm }) (now (book .entry)) (now (executions .entry)) .executions ⌝ }
-    ensures fair { λ r. ⌜ FairTake (record { side = side; limit = limit; size = size; algorithm = algorithm }) (now (book .entry)) (record { taken = r; book = now (book .exit); executions = now (executions .exit) }) ⌝ }
+    ensures taken { λ r. ⌜ r ≡ takeCall request (now (book .entry)) (now (executions .entry)) .taken ⌝ }
+    ensures book_bytes { λ r. ⌜ now (book .exit) ≡ takeCall request (now (book .entry)) (now (executions .entry)) .book ⌝ }
+    ensures execution_bytes { λ r. ⌜ now (executions .exit) ≡ takeCall request (now (book .entry)) (now (executions .entry)) .executions ⌝ }
+    ensures fair { λ r. ⌜ FairTake request (now (book .entry)) (record { taken = r; book = now (book .exit); executions = now (executions .exit) }) ⌝ }
     ensures kept_sound { λ r. ⌜ (r .refusal ≡ 0 → sound (now (book .exit)) ≡ true) ⌝ }
 {
-    take::take(book, executions, side, limit, size, algorithm)
+    take::take(book, executions, request)
 }

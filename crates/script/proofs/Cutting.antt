@@ -10,7 +10,8 @@ use lib.ListN.{length, getD, take, drop, drop-of-length-le, length-drop}
 use lib.Seq.{drop-cons, drop-drop}
 use borrow.Author.Tests.{ltb-true, ltb-false, lt-ltb, le-ltb, eq-eqb, ne-eqb}
 use Rattle.units.proofs.Tests.{same-test}
-use Rattle.script.specs.Text.{lineFeed, space, cutAt, span, FirstLine, fieldsOf}
+use Rattle.units.specs.Text.{lineFeed, space}
+use Rattle.script.specs.Text.{cutAt, span, FirstLine, fieldsOf}
 
 -- From place i of s on.
 module _ (b : ℕ) (s : List ℕ) (i : ℕ) where

@@ -11,7 +11,8 @@ use lib.Seq.{drop-cons, getD-take, length-take-le, take-suc-set}
 use Rattle.script.specs.declared.field.Value.the-variants.{Of, Nothing}
 use Rattle.script.specs.declared.field.Field.{Field}
 use Rattle.script.specs.declared.command.Readings.{Readings}
-use Rattle.script.specs.Text.{space, span, fieldsOf}
+use Rattle.units.specs.Text.{space}
+use Rattle.script.specs.Text.{span, fieldsOf}
 use Rattle.script.specs.Field.{meaning}
 use Rattle.script.specs.Command.{fits, valuesOf, Reads}
 use Rattle.script.proofs.Cutting.{fieldsFrom, fields-more, fields-some}

@@ -1,5 +1,6 @@
 -- The commands of a fillsheet, and which of them a line is.
 use Prim.Native.Nat.{ℕ}
+use Prim.Native.Char.{code}
 use mathlib.Core.Bool.{Bool, true, false, cond, _&&_}
 use mathlib.Core.Path.{_≡_}
 use mathlib.Core.List.{List, [], _∷_}
@@ -15,7 +16,7 @@ use Rattle.script.specs.declared.command.Command.the-variants.{Choose, A
 
 -- A n
 abbrev pub chooseForm : List Field
-chooseForm = Letter 65 ∷ Number ∷ []
+chooseForm = Letter (code "A") ∷ Number ∷ []
 
 -- B or S, number, D, H or M, price, size, minimum
 abbrev pub addForm : List Field
@@ -23,11 +24,11 @@ addForm = Side ∷ Number ∷ Kind ∷ Number ∷ Number ∷ Number ∷ []
 
 -- X number shares
 abbrev pub reduceForm : List Field
-reduceForm = Letter 88 ∷ Number ∷ Number ∷ []
+reduceForm = Letter (code "X") ∷ Number ∷ Number ∷ []
 
 -- T, B or S, limit, size
 abbrev pub takeForm : List Field
-takeForm = Letter 84 ∷ Side ∷ Number ∷ Number ∷ []
+takeForm = Letter (code "T") ∷ Side ∷ Number ∷ Number ∷ []
 
 -- the fields are those of the form, one for one
 abbrev pub fits : List Field → List (List ℕ) → Bool

@@ -1,10 +1,12 @@
 -- What a field stands for: a letter of a few, or a number.
 use Prim.Native.Nat.{ℕ, _+_, _-_, _*_}
+use Prim.Native.Char.{code}
 use mathlib.Core.Bool.{Bool, true, false, cond, not, _&&_, _||_}
 use mathlib.Core.List.{List, [], _∷_}
 use lib.Dec.{leb, eqb}
 use lib.ListN.{length, getD}
 use Rattle.units.specs.Lists.{all, inRange}
+use Rattle.units.specs.Text.{digitZero}
 use Rattle.script.specs.declared.field.Value.{Value}
 use Rattle.script.specs.declared.field.Value.the-variants.{Of, Nothing}
 use Rattle.script.specs.declared.field.Field.{Field}
@@ -21,12 +23,12 @@ valueOr0 Nothing = 0
 
 -- 0 to 9 in ASCII
 abbrev pub isDigit : ℕ → Bool
-isDigit = inRange 48 57
+isDigit = inRange digitZero (digitZero + 9)
 
 -- the number in decimal digits that follow those of n
 unfoldable pub decimalFrom : ℕ → List ℕ → ℕ
 decimalFrom n [] = n
-decimalFrom n (d ∷ ds) = decimalFrom (10 * n + (d - 48)) ds
+decimalFrom n (d ∷ ds) = decimalFrom (10 * n + (d - digitZero)) ds
 
 -- the largest number that a call can be given: one above it is outside every range, however many digits it has
 abbrev pub largest : ℕ
@@ -38,7 +40,7 @@ digitsFrom n ds = cond (all isDigit ds && leb (decimalFrom n ds) largest) (Of (d
 
 -- a leading zero, save 0 itself
 abbrev pub leadingZero : List ℕ → Bool
-leadingZero ds = not (eqb (length ds) 1) && eqb (getD ds 0 0) 48
+leadingZero ds = not (eqb (length ds) 1) && eqb (getD ds 0 0) digitZero
 
 -- the number that a field is: one digit at least, and no leading zero
 unfoldable pub numberIn : List ℕ → Value
@@ -51,6 +53,6 @@ letterOr letter n other f = cond (eqb (length f) 1 && eqb (getD f 0 0) letter) (
 -- B is side 1, S side 2; D is kind 1, H kind 2, M kind 3; a command's own letter counts as 1
 unfoldable pub meaning : Field → List ℕ → Value
 meaning (Letter l) f = letterOr l 1 Nothing f
-meaning Side f = letterOr 66 1 (letterOr 83 2 Nothing f) f
-meaning Kind f = letterOr 68 1 (letterOr 72 2 (letterOr 77 3 Nothing f) f) f
+meaning Side f = letterOr (code "B") 1 (letterOr (code "S") 2 Nothing f) f
+meaning Kind f = letterOr (code "D") 1 (letterOr (code "H") 2 (letterOr (code "M") 3 Nothing f) f) f
 meaning Number f = numberIn f

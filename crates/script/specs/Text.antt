@@ -5,14 +5,7 @@ use mathlib.Core.Bool.{cond}
 use mathlib.Core.List.{List, [], _∷_}
 use lib.Dec.{eqb}
 use lib.ListN.{length, take, drop}
-
--- the byte 0A hex, at which a line ends
-abbrev pub lineFeed : ℕ
-lineFeed = 10
-
--- the byte between two fields
-abbrev pub space : ℕ
-space = 32
+use Rattle.units.specs.Text.{lineFeed, space}
 
 -- a byte in front of the first part; a part of its own where there is none
 abbrev pub prepend : ℕ → List (List ℕ) → List (List ℕ)

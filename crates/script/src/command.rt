@@ -61,7 +61,7 @@ fn read_as(form: [Field; 6], n: usize, line: &[u8]) -> Readings
         if !open {
             return no_readings();
         }
-        let end = text::end_of(line, at, 32);
+        let end = text::end_of(line, at, b' ');
         let place = form[i];
         let Value::Of(value) = field::read(place, &line[at..end]) else {
             return no_readings();
@@ -82,7 +82,7 @@ fn read_choice(line: &[u8]) -> Readings
     ensures { λ r. ⌜ Reads chooseForm (now (line .entry)) r ⌝ }
 {
     let form = [
-        Field::Letter(65),
+        Field::Letter(b'A'),
         Field::Number,
         Field::Number,
         Field::Number,
@@ -112,7 +112,7 @@ fn read_reduction(line: &[u8]) -> Readings
     ensures { λ r. ⌜ Reads reduceForm (now (line .entry)) r ⌝ }
 {
     let form = [
-        Field::Letter(88),
+        Field::Letter(b'X'),
         Field::Number,
         Field::Number,
         Field::Number,
@@ -127,7 +127,7 @@ fn read_taking(line: &[u8]) -> Readings
     ensures { λ r. ⌜ Reads takeForm (now (line .entry)) r ⌝ }
 {
     let form = [
-        Field::Letter(84),
+        Field::Letter(b'T'),
         Field::Side,
         Field::Number,
         Field::Number,

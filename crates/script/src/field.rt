@@ -1,4 +1,5 @@
 // A field of a line, and what it stands for.
+ghost use Rattle.units.specs.Text.{digitZero};
 ghost use mathlib.Core.Path.{_≡_};
 ghost use mathlib.Core.Bool.{_&&_};
 ghost use Prim.Native.Nat.{_-_, _≤_};
@@ -29,14 +30,14 @@ const LARGEST: u64 = 4_294_967_295;
 fn is_digit(b: u8) -> bool
     ensures { λ r. ⌜ r ≡ isDigit b ⌝ }
 {
-    (48 <= b) & (b <= 57)
+    (b'0' <= b) & (b <= b'9')
 }
 
 // The number that a digit stands for.
 fn digit(b: u8) -> u64
-    ensures { λ r. ⌜ (r ≡ b - 48) × (r ≤ 207) ⌝ }
+    ensures { λ r. ⌜ (r ≡ b - digitZero) × (r ≤ 207) ⌝ }
 {
-    if b < 48 { 0 } else { (b - 48) as u64 }
+    if b < b'0' { 0 } else { (b - b'0') as u64 }
 }
 
 // The number that digits stand for, if there is nothing else and no call's range is passed.
@@ -65,7 +66,7 @@ fn number_in(field: &[u8]) -> Value
     if field.len() == 0 {
         return Value::Nothing;
     }
-    if (field.len() != 1) & (field[0] == 48) {
+    if (field.len() != 1) & (field[0] == b'0') {
         return Value::Nothing;
     }
     digits_in(field)
@@ -99,13 +100,13 @@ pub fn read(place: Field, field: &[u8]) -> Value
     match place {
         Field::Letter(letter) => letter_or(letter, 1, Value::Nothing, field),
         Field::Side => {
-            let sell = letter_or(83, 2, Value::Nothing, field);
-            letter_or(66, 1, sell, field)
+            let sell = letter_or(b'S', 2, Value::Nothing, field);
+            letter_or(b'B', 1, sell, field)
         }
         Field::Kind => {
-            let minimum = letter_or(77, 3, Value::Nothing, field);
-            let hidden = letter_or(72, 2, minimum, field);
-            letter_or(68, 1, hidden, field)
+            let minimum = letter_or(b'M', 3, Value::Nothing, field);
+            let hidden = letter_or(b'H', 2, minimum, field);
+            letter_or(b'D', 1, hidden, field)
         }
         Field::Number => number_in(field),
     }

@@ -26,7 +26,7 @@ pub fn line_end(text: &[u8], at: usize) -> usize
     requires { ⌜ at < length (now text) ⌝ }
     ensures { λ r. ⌜ FirstLine (now (text .entry)) at r ⌝ }
 {
-    end_of(text, at, 10)
+    end_of(text, at, b'\n')
 }
 
 // Where the next part begins behind one that ends here, in a text of this length: behind the byte between them, if there is one.

@@ -7,3 +7,4 @@ pub mod SetterSharing
 pub mod Closed
 pub mod Thin
 pub mod Zeros
+pub mod Methods

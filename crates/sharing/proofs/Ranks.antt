@@ -7,7 +7,9 @@ use native.Mathlib.Omega.{arith}
 use borrow.Author.Tests.{ltb-true, ltb-false, le-ltb}
 use Rattle.units.specs.Lists.{total}
 use Rattle.units.proofs.Members.{Every, every-member, every-weaken, every-both}
-use Rattle.sharing.specs.Rank.{Part, Rising, byTime, larger, smallerMinimum, place, ranked}
+use Rattle.sharing.specs.declared.Rank.{Rank}
+use Rattle.sharing.specs.declared.Rank.the-variants.{Time, Size, Minimum}
+use Rattle.sharing.specs.Rank.{Part, Rising, byTime, larger, smallerMinimum, beforeOf, place, ranked}
 
 -- a map that keeps the numbers keeps them rising
 pub rising-map : (f : Part → Part) → ((p : Part) → f p .number ≡ p .number) → (m : ℕ) (ps : List Part) → Rising m ps → Rising m (map f ps)
@@ -41,6 +43,11 @@ by-minimum = record {
   apart = λ a b e. le-ltb (b .minimum) (a .minimum) (omega (arith, ltb-true (a .minimum) (b .minimum) e));
   chain = λ a b c e f. le-ltb (c .minimum) (a .minimum) (omega (arith, ltb-false (b .minimum) (a .minimum) e, ltb-false (c .minimum) (b .minimum) f));
 }
+
+pub by-rank : (rank : Rank) → Weak (beforeOf rank)
+by-rank Time = by-time
+by-rank Size = by-size
+by-rank Minimum = by-minimum
 
 -- each part in R to all that follow it
 abbrev pub Pairwise : (Part → Part → Type 0) → List Part → Type 0

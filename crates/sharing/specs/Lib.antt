@@ -2,4 +2,5 @@ pub mod Rank
 pub mod Round
 pub mod Lots
 pub mod Setter
+pub mod Method
 pub mod Examples

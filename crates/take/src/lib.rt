@@ -67,26 +67,13 @@ fn no_losses() -> [u32; 256]
 
 // An incoming order takes shares from the orders of the book. Its executions go into the second buffer, from its start. The numbers may
 // have any value.
-pub fn take(
-    book: &mut [u8],
-    executions: &mut [u8],
-    side: u32,
-    limit: u32,
-    size: u32,
-    algorithm: u32,
-) -> Taken
-    ensures taken { λ r. ⌜ r ≡ takeCall (record { side = side; limit = limit; size = size; algorithm = algorithm }) (now (book .entry)) (now (executions .entry)) .taken ⌝ }
-    ensures book_bytes { λ r. ⌜ now (book .exit) ≡ takeCall (record { side = side; limit = limit; size = size; algorithm = algorithm }) (now (book .entry)) (now (executions .entry)) .book ⌝ }
-    ensures execution_bytes { λ r. ⌜ now (executions .exit) ≡ takeCall (record { side = side; limit = limit; size = size; algorithm = algorithm }) (now (book .entry)) (now (executions .entry)) .executions ⌝ }
-    ensures fair { λ r. ⌜ FairTake (record { side = side; limit = limit; size = size; algorithm = algorithm }) (now (book .entry)) (record { taken = r; book = now (book .exit); executions = now (executions .exit) }) ⌝ }
+pub fn take(book: &mut [u8], executions: &mut [u8], request: TakeRequest) -> Taken
+    ensures taken { λ r. ⌜ r ≡ takeCall request (now (book .entry)) (now (executions .entry)) .taken ⌝ }
+    ensures book_bytes { λ r. ⌜ now (book .exit) ≡ takeCall request (now (book .entry)) (now (executions .entry)) .book ⌝ }
+    ensures execution_bytes { λ r. ⌜ now (executions .exit) ≡ takeCall request (now (book .entry)) (now (executions .entry)) .executions ⌝ }
+    ensures fair { λ r. ⌜ FairTake request (now (book .entry)) (record { taken = r; book = now (book .exit); executions = now (executions .exit) }) ⌝ }
     ensures kept_sound { λ r. ⌜ (r .refusal ≡ 0 → sound (now (book .exit)) ≡ true) ⌝ }
 {
-    let request = TakeRequest {
-        side,
-        limit,
-        size,
-        algorithm,
-    };
     if !in_range(request) {
         return refused(1);
     }
@@ -106,7 +93,7 @@ pub fn take(
         &mut shown,
         &mut hidden,
         incoming_of(request),
-        Algorithm::of(algorithm),
+        Algorithm::of(request.algorithm),
         units::round_lot(),
     );
     let count = progress.count;

@@ -13,7 +13,7 @@ use Rattle.units.specs.declared.Shares.{Shares}
 use Rattle.units.proofs.Members.{Every}
 use Rattle.turns.specs.declared.Member.{Member}
 use Rattle.sharing.specs.Rank.{Part, noPart, partSize}
-use Rattle.turns.specs.Members.{asPart, partsOf, countOf, countsOf}
+use Rattle.turns.specs.Members.{asPart, partsOf, countOf, sharesAt, countsOf}
 use Rattle.turns.proofs.Arrays.{at-map, front-length, front-at, left-more}
 use Rattle.turns.proofs.Fronts.{every-at}
 use Rattle.turns.proofs.Member.{the-row}
@@ -38,10 +38,6 @@ parts-next n group i h f = rw add-one at (left-more asPart n group f i noMember 
 -- what is read behind the last entry of an allotment
 abbrev pub noShares : Shares
 noShares = record { 0 = 0 }
-
--- what an allotment has at a place
-abbrev pub sharesAt : List Shares → ℕ → ℕ
-sharesAt xs i = countOf (getD xs i noShares)
 
 -- the numbers of an allotment are what it has at each place
 pub counts-at : (n : ℕ) (xs : List Shares) (i : ℕ) → i < n → sharesAt xs i ≡ getD (countsOf n xs) i 0

@@ -1,13 +1,13 @@
 -- The members of a group in code, as parts; an allotment in code, as numbers; and the ranks.
 use Prim.Native.Nat.{ℕ, suc, _-_}
-use mathlib.Core.Bool.{Bool, cond}
+use mathlib.Core.Bool.{cond}
 use mathlib.Core.List.{List, [], _∷_, map}
-use lib.ListN.{take}
+use lib.ListN.{getD, take}
 use Rattle.units.specs.declared.Shares.{Shares}
 use Rattle.turns.specs.declared.Member.{Member}
-use Rattle.turns.specs.declared.Rank.{Rank}
-use Rattle.turns.specs.declared.Rank.the-variants.{Time, Size, Minimum}
-use Rattle.sharing.specs.Rank.{Part, byTime, larger, smallerMinimum}
+use Rattle.sharing.specs.declared.Rank.{Rank}
+use Rattle.sharing.specs.declared.Rank.the-variants.{Time, Size, Minimum}
+use Rattle.sharing.specs.Rank.{Part}
 
 abbrev pub asPart : Member → Part
 asPart m = record { number = m .number; size = m .size .0; minimum = m .minimum .0; setter = m .setter }
@@ -19,15 +19,13 @@ partsOf n ms = map asPart (take n ms)
 abbrev pub countOf : Shares → ℕ
 countOf x = x .0
 
+-- what an allotment has at a place, nothing behind its last entry
+abbrev pub sharesAt : List Shares → ℕ → ℕ
+sharesAt xs i = countOf (getD xs i (record { 0 = 0 }))
+
 -- the first n entries of an allotment
 abbrev pub countsOf : ℕ → List Shares → List ℕ
 countsOf n xs = map countOf (take n xs)
-
--- which of two has its turn first by a rank
-abbrev pub beforeOf : Rank → Part → Part → Bool
-beforeOf Time = byTime
-beforeOf Size = larger
-beforeOf Minimum = smallerMinimum
 
 -- the rank as a number: the lower, the earlier the turn
 abbrev pub rankKey : Rank → Part → ℕ

@@ -1,4 +1,5 @@
 -- Tests as facts: long chains of tests, ranges of numbers, and lists with the same numbers.
+use Rattle.units.specs.declared.Shares.{Shares}
 use Prim.Native.Nat.{ℕ, _≤_}
 use mathlib.Core.Path.{_≡_, refl, sym, ap, _∙_}
 use mathlib.Core.Bool.{Bool, true, false, _&&_, and-assoc, false≢true}
@@ -66,3 +67,7 @@ numbers-same (x ∷ s) (y ∷ t) e =
     let h = eqb-true x y (a .0) in
     let i = numbers-same s t (a .1) in
     cc
+
+-- a count of shares is its number
+pub shares-are : (a : Shares) {n : ℕ} → a .0 ≡ n → a ≡ record { 0 = n }
+shares-are a e = ap (λ (n : ℕ). record { 0 = n }) e

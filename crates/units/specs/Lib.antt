@@ -1,2 +1,4 @@
 pub mod Lists
 pub mod Lots
+pub mod Text
+pub mod Examples

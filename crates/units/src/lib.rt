@@ -1,6 +1,6 @@
 // Shares, round lots and prices, counted apart: one is never taken for another.
 ghost use mathlib.Core.Path.{_≡_};
-ghost use Prim.Native.Nat.{_-_, _*_, _/_, _^_, _<_, min};
+ghost use Prim.Native.Nat.{_+_, _-_, _*_, _/_, _^_, _<_, min};
 ghost use Rattle.units.specs.Lists.{inRange};
 ghost use Rattle.units.specs.Lots.{roundLot};
 
@@ -18,6 +18,14 @@ pub fn least(a: Shares, b: Shares) -> Shares
     ensures { λ r. ⌜ r .0 ≡ min (a .0) (b .0) ⌝ }
 {
     if a.0 <= b.0 { a } else { b }
+}
+
+// Two counts together.
+pub fn sum(a: Shares, b: Shares) -> Shares
+    requires { ⌜ a .0 + b .0 < 2 ^ 32 ⌝ }
+    ensures { λ r. ⌜ r .0 ≡ a .0 + b .0 ⌝ }
+{
+    Shares(a.0 + b.0)
 }
 
 // What b leaves of a; nothing where b is the larger.

@@ -23,29 +23,35 @@ struct Taken {
     left: u32,
 }
 
+#[repr(C)]
+struct AddRequest {
+    side: u32,
+    kind: u32,
+    number: u32,
+    price: u32,
+    size: u32,
+    minimum: u32,
+}
+
+#[repr(C)]
+struct TakeRequest {
+    side: u32,
+    limit: u32,
+    size: u32,
+    algorithm: u32,
+}
+
 extern "C" {
     fn ruhvasto_check(book: *const u8, book_len: usize) -> Checked;
     fn ruhvasto_find(book: *const u8, book_len: usize, number: u32) -> Found;
-    fn ruhvasto_add(
-        book: *mut u8,
-        book_len: usize,
-        side: u32,
-        kind: u32,
-        number: u32,
-        price: u32,
-        size: u32,
-        minimum: u32,
-    ) -> u32;
+    fn ruhvasto_add(book: *mut u8, book_len: usize, request: AddRequest) -> u32;
     fn ruhvasto_reduce(book: *mut u8, book_len: usize, number: u32, shares: u32) -> u32;
     fn ruhvasto_take(
         book: *mut u8,
         book_len: usize,
         executions: *mut u8,
         executions_len: usize,
-        side: u32,
-        limit: u32,
-        size: u32,
-        algorithm: u32,
+        request: TakeRequest,
     ) -> Taken;
 }
 
@@ -63,12 +69,20 @@ pub fn find(book: &[u8], number: u32) -> Numbers {
     [found.refusal as usize, found.start, found.length]
 }
 
+/// Side, kind, number, price, size and minimum.
 #[inline]
 pub fn add(book: &mut [u8], numbers: [u32; 6]) -> Numbers {
     let [side, kind, number, price, size, minimum] = numbers;
-    let (start, length) = (book.as_mut_ptr(), book.len());
+    let request = AddRequest {
+        side,
+        kind,
+        number,
+        price,
+        size,
+        minimum,
+    };
     // Safety: the slice is as many bytes as said, and nobody else's meanwhile.
-    let refusal = unsafe { ruhvasto_add(start, length, side, kind, number, price, size, minimum) };
+    let refusal = unsafe { ruhvasto_add(book.as_mut_ptr(), book.len(), request) };
     [refusal as usize, 0, 0]
 }
 
@@ -79,13 +93,20 @@ pub fn reduce(book: &mut [u8], number: u32, shares: u32) -> Numbers {
     [refusal as usize, 0, 0]
 }
 
+/// Side, limit, size and algorithm.
 #[inline]
 pub fn take(book: &mut [u8], executions: &mut [u8], numbers: [u32; 4]) -> Numbers {
     let [side, limit, size, algorithm] = numbers;
+    let request = TakeRequest {
+        side,
+        limit,
+        size,
+        algorithm,
+    };
     let (start, length) = (book.as_mut_ptr(), book.len());
     let (second, room) = (executions.as_mut_ptr(), executions.len());
     // Safety: as above, for both slices; they don't overlap.
-    let taken = unsafe { ruhvasto_take(start, length, second, room, side, limit, size, algorithm) };
+    let taken = unsafe { ruhvasto_take(start, length, second, room, request) };
     [
         taken.refusal as usize,
         taken.count as usize,

@@ -4,7 +4,6 @@ use native.Mathlib.Omega.{arith}
 use borrow.Author.Needs.{needs}
 use Rattle.record.proofs.Numbers.{are-bytes}
 use Rattle.book.proofs.Committing.{refusal-answer, written-answer}
-use Rattle.entry.specs.declared.admission.AddRequest.{AddRequest}
 use Rattle.entry.specs.Add.{addCall}
 use Rattle.entry.proofs.Adding.{add-sound}
 use Rattle.entry.proofs.AddPlan.{plan-refused, plan-admitted}
@@ -23,7 +22,7 @@ returns c =
     let d = m .before .before in
     let a = d .before .before .before .args in
     let s = a .book .now in
-    let q : AddRequest = record { side = a .side; kind = a .kind; number = a .number; price = a .price; size = a .size; minimum = a .minimum } in
+    let q = a .request in
     refusal-answer (addCall q s) s (add-sound q s) _ (plan-refused q s _ (sym (m .refusal .given .1) ∙ d .decide .ensures))
 
 returns-2 : tie.Need-returns-2
@@ -34,7 +33,7 @@ returns-2 c =
     let e = d .before .before in
     let a = e .before .args in
     let s = a .book .now in
-    let q : AddRequest = record { side = a .side; kind = a .kind; number = a .number; price = a .price; size = a .size; minimum = a .minimum } in
+    let q = a .request in
     written-answer (addCall q s) s (add-sound q s) (are-bytes s (λ k. omega (arith, e .slice-known .given k))) _ _ _
     (plan-admitted q s _ _ (sym (m .start .given .1) ∙ d .decide .ensures)) (w .write-order .ensures)
 

@@ -3,6 +3,7 @@ use Prim.Native.Nat.{_-_}
 use mathlib.Core.Path.{refl}
 use native.Mathlib.Omega.{arith}
 use borrow.Author.Needs.{needs}
+use Rattle.units.proofs.Facts.{shares-are}
 use Rattle.groups.proofs.Counting.{Added, added-none, added-fits, added-more, added-done}
 use Rattle.groups.proofs.with_order.Statement.{statement}
 use Rattle.groups.proofs.with_order.Tie as tie
@@ -16,21 +17,21 @@ abbrev μ-loop : tie.MeasureT-loop
 loop-holds : tie.Need-loop-holds Inv-loop μ-loop
 loop-holds c = added-none (c .args .totals) (search needs)
 
-add-t14 : tie.Need-add-t14 Inv-loop μ-loop
-add-t14 c =
-    let n = c .before .before in
-    let t = n .before .before .before in
+sum-requires : tie.Need-sum-requires Inv-loop μ-loop
+sum-requires c κs =
+    let t = c .before .before .before in
     let l = t .before in
     let s = l .before in
-    let e = added-fits (l .loop .inv) (t .loop-test .taken) (n .before .at .result) (n .standing .ensures) in
-    record { fits = omega (arith, e (s .pre .1) (s .pre .0 (l .loop .k) (t .loop-test .taken))) }
+    let e = added-fits (l .loop .inv) (t .loop-test .taken) (c .before .at .result) (c .standing .ensures) in
+    omega (arith, e (s .pre .1) (s .pre .0 (l .loop .k) (t .loop-test .taken)))
 
 loop-again : tie.Need-loop-again Inv-loop μ-loop
 loop-again c =
-    let n = c .before .before in
+    let n = c .before in
     let t = n .before .before .before in
     let l = t .before in
-    added-more (l .loop .inv) (t .loop-test .taken) (n .before .at .result) (n .standing .ensures) (n .before .at .ensures) refl
+    rw (shares-are (c .sum .result) (c .sum .ensures))
+    (added-more (l .loop .inv) (t .loop-test .taken) (n .before .at .result) (n .standing .ensures) (n .before .at .ensures) refl)
 
 returns : tie.Need-returns Inv-loop μ-loop
 returns c = added-done (c .before .loop .inv) (c .loop-test .left) (search needs)
@@ -39,5 +40,5 @@ pub with-order-spec : {M : Type 1} → statement M
 with-order-spec =
     tie.close
     (tie.spec
-    Inv-loop μ-loop loop-holds (λ c. search needs) (λ c. search needs) (λ c κs. search needs) (λ c κs. search needs) add-t14
+    Inv-loop μ-loop loop-holds (λ c. search needs) (λ c. search needs) (λ c κs. search needs) (λ c κs. search needs) sum-requires
     (λ c. search needs) (λ c. search needs) (λ c. search needs) (λ c. search needs) loop-again returns)

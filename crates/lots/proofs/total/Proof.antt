@@ -11,14 +11,14 @@ use Rattle.lots.proofs.total.Statement.{statement}
 use Rattle.lots.proofs.total.Tie as tie
 
 abbrev Inv-loop : tie.InvT-loop
-Inv-loop n shares sum₀ i₀ added i = added + sum (drop i (countsOf n shares)) ≡ sum (countsOf n shares)
+Inv-loop n shares sum₀ i₀ added i = added .0 + sum (drop i (countsOf n shares)) ≡ sum (countsOf n shares)
 
 abbrev μ-loop : tie.MeasureT-loop
 μ-loop n shares sum₀ i₀ added i = n - i
 
-add-sum : tie.Need-add-sum Inv-loop μ-loop
-add-sum c =
-    let t = c .before .before in
+sum-requires : tie.Need-sum-requires Inv-loop μ-loop
+sum-requires c κs =
+    let t = c .before in
     let a = t .before .before .args in
     omega (arith, ap sum (left-more countOf (a .n) (a .t1) (omega arith) (t .before .loop .i) (record { 0 = 0 }) (t .loop-test .taken)))
 
@@ -26,7 +26,8 @@ loop-again : tie.Need-loop-again Inv-loop μ-loop
 loop-again c =
     let t = c .before .before in
     let a = t .before .before .args in
-    omega (arith, ap sum (left-more countOf (a .n) (a .t1) (omega arith) (t .before .loop .i) (record { 0 = 0 }) (t .loop-test .taken)))
+    omega
+    (arith, c .sum .ensures, ap sum (left-more countOf (a .n) (a .t1) (omega arith) (t .before .loop .i) (record { 0 = 0 }) (t .loop-test .taken)))
 
 returns : tie.Need-returns Inv-loop μ-loop
 returns c =
@@ -37,5 +38,5 @@ pub total-spec : {M : Type 1} → statement M
 total-spec =
     tie.close
     (tie.spec
-    Inv-loop μ-loop (λ c. search needs) (λ c. search needs) (λ c. search needs) add-sum (λ c. search needs) (λ c. search needs)
+    Inv-loop μ-loop (λ c. search needs) (λ c. search needs) (λ c. search needs) sum-requires (λ c. search needs) (λ c. search needs)
     loop-again returns)

@@ -1,7 +1,7 @@
 -- `rounds::by_rank` meets its contract: each wants its size, and has nothing before.
 use borrow.Author.Needs.{needs}
-use Rattle.sharing.specs.Rank.{partSize}
-use Rattle.turns.specs.Members.{beforeOf, partsOf}
+use Rattle.sharing.specs.Rank.{partSize, beforeOf}
+use Rattle.turns.specs.Members.{partsOf}
 use Rattle.turns.proofs.Places.{parts-length, sizes-fit}
 use Rattle.rounds.proofs.Going.{round-alone}
 use Rattle.rounds.proofs.by_rank.Statement.{statement}

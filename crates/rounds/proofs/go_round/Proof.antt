@@ -3,6 +3,7 @@ use Prim.Native.Nat.{_-_}
 use mathlib.Core.Path.{_≡_}
 use lib.ListN.{length}
 use borrow.Author.Needs.{needs}
+use Rattle.units.proofs.Facts.{shares-are}
 use Rattle.turns.proofs.Places.{parts-fit}
 use Rattle.rounds.proofs.Going.{Turning, Going, going-none, going-fits, going-more, going-done}
 use Rattle.rounds.proofs.go_round.Statement.{statement}
@@ -34,17 +35,19 @@ turning c =
 loop-holds : tie.Need-loop-holds Inv-loop μ-loop
 loop-holds c = going-none (turning c)
 
-add-t36 : tie.Need-add-t36 Inv-loop μ-loop
-add-t36 c =
-    let t = c .before .before .before .before .before .before .before in
+sum-requires : tie.Need-sum-requires Inv-loop μ-loop
+sum-requires c κs =
+    let t = c .before .before .before .before .before in
     let l = t .before in
-    record { fits = going-fits (turning (l .before)) (l .loop .inv) (t .loop-test .taken) (c .before .before .taking .ensures) }
+    going-fits (turning (l .before)) (l .loop .inv) (t .loop-test .taken) (c .taking .ensures)
 
 loop-again : tie.Need-loop-again Inv-loop μ-loop
 loop-again c =
-    let t = c .before .before .before .before .before .before .before .before in
+    let s = c .before in
+    let t = s .before .before .before .before .before .before in
     let l = t .before in
-    going-more (turning (l .before)) (l .loop .inv) (t .loop-test .taken) (c .before .before .before .taking .ensures) (c .remaining .ensures)
+    rw (shares-are (s .sum .result) (s .sum .ensures))
+    (going-more (turning (l .before)) (l .loop .inv) (t .loop-test .taken) (s .before .taking .ensures) (c .remaining .ensures))
 
 returns : tie.Need-returns Inv-loop μ-loop
 returns c =
@@ -57,5 +60,5 @@ go-round-spec =
     (tie.spec
     Inv-loop μ-loop (λ c κs. search needs) loop-holds (λ c. search needs) (λ c. search needs) (λ c. search needs) (λ c. search needs)
     (λ c. search needs) (λ c. search needs) (λ c. search needs) (λ c. search needs) (λ c κs. search needs)
-    add-t36 (λ c. search needs) (λ c. search needs) (λ c κs. search needs) (λ c. search needs) (λ c. search needs)
+    sum-requires (λ c. search needs) (λ c. search needs) (λ c κs. search needs) (λ c. search needs) (λ c. search needs)
     loop-again returns)

@@ -30,7 +30,7 @@ returns : tie.Need-returns
 returns c =
     let t = c .before .before in
     let a = t .before .before .before .args in
-    let q : TakeRequest = record { side = a .side; limit = a .limit; size = a .size; algorithm = a .algorithm } in
+    let q = a .request in
     rw (c .refused .ensures) (refused-range q (a .book .now) (a .executions .now) (sym (t .in-range .ensures) ∙ not-true _ (c .before .if1 .taken)))
 
 returns-2 : tie.Need-returns-2
@@ -38,7 +38,7 @@ returns-2 c =
     let k = c .before .before in
     let t = k .before .before .before in
     let a = t .before .before .before .args in
-    let q : TakeRequest = record { side = a .side; limit = a .limit; size = a .size; algorithm = a .algorithm } in
+    let q = a .request in
     let b = check-refused (a .book .now) _ (k .check .ensures) (c .before .if2 .taken) in
     rw (c .refused2 .ensures)
     (refused-book q (a .book .now) (a .executions .now) (sym (t .in-range .ensures) ∙ not-false _ (k .before .before .if1 .left)) (b .1) (b .0))
@@ -47,7 +47,7 @@ returns-2 c =
 seen : (c : tie.Else2)
     → let k = c .before in
     let a = k .before .before .before .before .before .before .args in
-    let q : TakeRequest = record { side = a .side; limit = a .limit; size = a .size; algorithm = a .algorithm } in
+    let q = a .request in
     (requestInRange q ≡ true) × (sound (a .book .now) ≡ true) × (k .check .result .orders ≡ length (ordersOf (a .book .now)))
 seen c =
     let k = c .before in
@@ -62,7 +62,7 @@ allocate-requires c κs =
     let x = l .before .before .before .before in
     let a = x .before .before .before .before .before .before .before .args in
     let w = seen x in
-    let q : TakeRequest = record { side = a .side; limit = a .limit; size = a .size; algorithm = a .algorithm } in (
+    let q = a .request in (
       w .1,
       w .2,
       search needs,
@@ -82,7 +82,7 @@ module _ (c : tie.After-allocate) where
   s = x .before .before .before .before .before .before .before
 
   abbrev q : TakeRequest
-  q = record { side = s .args .side; limit = s .args .limit; size = s .args .size; algorithm = s .args .algorithm }
+  q = s .args .request
 
   abbrev os : List Order
   os = ordersOf (s .args .book .now)

@@ -6,7 +6,8 @@ use borrow.Author.Needs.{needs}
 use lib.ListN.{length}
 use Rattle.book.specs.Sound.{ordersOf}
 use Rattle.matching.specs.Paragraph.{paragraphs}
-use Rattle.ledger.specs.Progress.{ledger, stateOf, sharesAt}
+use Rattle.turns.specs.Members.{sharesAt}
+use Rattle.ledger.specs.Progress.{ledger, stateOf}
 use Rattle.allocation.specs.Walk.{after, rowsAt}
 use Rattle.allocation.proofs.InTurn.{InTurn, in-turn-none, in-turn-done, in-turn-room, in-turn-more, in-turn-skip, size-at}
 use Rattle.allocation.proofs.walk.at_level.Statement.{statement}

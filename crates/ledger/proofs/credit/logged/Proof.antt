@@ -8,8 +8,8 @@ use lib.ListN.{length}
 use Rattle.orders.specs.declared.order.Order.{Order}
 use Rattle.record.specs.Execution.{encodeExecution}
 use Rattle.matching.specs.declared.incoming.Incoming.{Incoming}
+use Rattle.turns.specs.Members.{sharesAt}
 use Rattle.ledger.specs.declared.Progress.{Progress}
-use Rattle.ledger.specs.Progress.{sharesAt}
 use Rattle.ledger.proofs.Stretch.{executionBy}
 use Rattle.ledger.proofs.Turns.{Logging, logging-none, logging-more, logging-same, logging-done, turn-bytes, turn-room, used-fits}
 use Rattle.ledger.proofs.credit.logged.Statement.{statement}
@@ -17,7 +17,7 @@ use Rattle.ledger.proofs.credit.logged.Tie as tie
 
 abbrev Inv-loop : tie.InvT-loop
 Inv-loop book log₀ level paragraph allotment price order count₀ used₀ i₀ log count used i =
-    Logging book level paragraph allotment log₀ count₀ log count used i
+    Logging book level paragraph allotment log₀ count₀ log count (used .0) i
 
 abbrev μ-loop : tie.MeasureT-loop
 μ-loop book log₀ level paragraph allotment price order count₀ used₀ i₀ log count used i = level .to - i
@@ -43,12 +43,11 @@ put-requires c κs =
     let r = turn-room (l .before .before .before .before .before .pre) (long (l .before)) (l .loop .inv) (t .if1 .taken) (w .if2 .taken) in
     omega (arith, r, l .loop .inv .longLog)
 
-add-used : tie.Need-add-used Inv-loop μ-loop
-add-used c =
-    let t = c .before .before .before .before in
+sum-requires : tie.Need-sum-requires Inv-loop μ-loop
+sum-requires c κs =
+    let t = c .before .before .before in
     let l = t .before .before in
-    let n = used-fits (l .before .before .before .before .before .pre) (long (l .before)) (l .loop .inv) (t .if1 .taken) in
-    record { fits = omega (arith, n) }
+    omega (arith, used-fits (l .before .before .before .before .before .pre) (long (l .before)) (l .loop .inv) (t .if1 .taken))
 
 loop-again : tie.Need-loop-again Inv-loop μ-loop
 loop-again c =
@@ -58,12 +57,12 @@ loop-again c =
     let e = l .before .before .before .before .before in
     let a = e .args in
     ⊎-elim
-    (λ w. rw (w .8, w .9, w .5 .ensures)
+    (λ w. rw (w .8, w .9, w .5 .ensures, c .sum .ensures)
     (logging-more (e .pre) (long (l .before)) (l .loop .inv) (t .if1 .taken) _
     (w .2 .ensures
     ∙ ap (λ (o : Order). encodeExecution (executionBy (a .paragraph) (a .level .price .0) o (sharesAt (a .t6) (l .loop .i)))) (w .1 .ensures))
     (w .0 .taken)))
-    (λ w. rw (w .1, w .2)
+    (λ w. rw (w .1, w .2, c .sum .ensures)
     (logging-same (e .pre) (long (l .before)) (l .loop .inv) (t .if1 .taken) (omega (arith, w .0 .left))))
     (j .if2 .came)
 
@@ -80,5 +79,5 @@ logged-spec =
     tie.close
     (tie.spec
     Inv-loop μ-loop loop-holds (λ c. search needs) (λ c. search needs) (λ c. search needs) order-at-requires (λ c κs. search needs)
-    (λ c. search needs) (λ c. search needs) put-requires (λ c. search needs) add-used (λ c. search needs) (λ c. search needs) loop-again
+    (λ c. search needs) (λ c. search needs) put-requires (λ c. search needs) sum-requires (λ c. search needs) (λ c. search needs) loop-again
     (λ c κs. search needs) (λ c. search needs) returns)

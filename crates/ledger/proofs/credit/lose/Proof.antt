@@ -1,6 +1,6 @@
 -- `ledger::credit::lose` meets its contract: the orders before place i have lost their shares.
 use Prim.Native.Nat.{ℕ, _-_, _≤_, _<_}
-use mathlib.Core.Path.{_≡_, refl, _∙_}
+use mathlib.Core.Path.{_≡_, _∙_}
 use native.Mathlib.Omega.{arith}
 use borrow.Author.Needs.{needs}
 use lib.ListN.{length, length-set}
@@ -20,34 +20,37 @@ abbrev μ-loop : tie.MeasureT-loop
 
 loop-holds : tie.Need-loop-holds Inv-loop μ-loop
 loop-holds c =
-    let a = c .args in
-    (omega arith, λ k h m. absurd (omega arith), c .pre .0, losing-none (a .level .from) (a .t3) (a .lost .now))
+    let s = c .before in
+    let a = s .args in
+    (omega arith, λ k h m. absurd (omega arith), s .pre .0, losing-none (a .level .from) (a .t3) (a .lost .now))
 
-add-lost : tie.Need-add-lost Inv-loop μ-loop
-add-lost c =
-    let t = c .before .before .before in
+sum-requires : tie.Need-sum-requires Inv-loop μ-loop
+sum-requires c κs =
+    let t = c .before .before in
     let l = t .before .before in
-    let a = l .before .args in
+    let s = l .before .before in
+    let a = s .args in
     let e = losing-here (a .level .from) (a .t3) (a .lost .now) (l .loop .lost) (l .loop .i) (l .loop .inv .3) in
-    record { fits = omega (arith, e, l .before .pre .2 (l .loop .i) (t .if1 .taken)) }
+    omega (arith, e, s .pre .2 (l .loop .i) (t .if1 .taken))
 
 loop-again : tie.Need-loop-again Inv-loop μ-loop
 loop-again c =
     let t = c .before .before .before in
     let l = t .before .before in
-    let a = l .before .args in
+    let s = l .before .before in
+    let a = s .args in
     let h = l .loop .inv in (
       omega (arith, h .0),
       λ k m n. omega (arith, t .if1 .taken),
       length-set (l .loop .lost) (l .loop .i) _ ∙ h .2,
       losing-more (a .level .from) (a .t3) (a .lost .now) (l .loop .lost) (l .loop .i) (h .3) (h .0)
-          (omega (arith, h .2, t .if1 .taken, l .before .pre .1)) _ refl,
+          (omega (arith, h .2, t .if1 .taken, s .pre .1)) _ (c .sum .ensures),
     )
 
 returns : tie.Need-returns Inv-loop μ-loop
 returns c =
     let l = c .before .before in
-    let a = l .before .args in
+    let a = l .before .before .args in
     let h = l .loop .inv in
     (h .2, losing-done (a .level .from) (a .t3) (a .lost .now) (l .loop .lost) (l .loop .i) (h .3) (a .level .to) (h .1) (c .if1 .left))
 
@@ -55,5 +58,5 @@ pub lose-spec : {M : Type 1} → statement M
 lose-spec =
     tie.close
     (tie.spec
-    Inv-loop μ-loop loop-holds (λ c. search needs) (λ c. search needs) (λ c. search needs) (λ c. search needs) add-lost (λ c. search needs)
-    (λ c. search needs) (λ c. search needs) (λ c. search needs) loop-again (λ c. search needs) returns)
+    Inv-loop μ-loop loop-holds (λ c. search needs) (λ c. search needs) (λ c. search needs) (λ c. search needs) sum-requires
+    (λ c. search needs) (λ c. search needs) (λ c. search needs) (λ c. search needs) loop-again (λ c. search needs) returns)

@@ -1,0 +1,66 @@
+/* Makes calls of the library as it is told, for .ci/documents. A line is 'CALL BOOK EXECUTIONS NUMBER..', both buffers in hex with an x in
+ * front; the answer is a line too: the numbers that the call returned, then both buffers as it left them. */
+#include <ruhvasto.h>
+#include <stdio.h>
+#include <stdlib.h>
+#include <string.h>
+
+static size_t length(const char *hex)
+{
+    return strlen(hex + 1) / 2;
+}
+
+/* A buffer of exactly so many bytes, and one byte where there are none: no pointer may be NULL. */
+static uint8_t *lend(const char *hex)
+{
+    uint8_t *bytes = malloc(length(hex) + (length(hex) == 0));
+    if (bytes == NULL)
+        exit(2);
+    for (size_t i = 0; i < length(hex); i++)
+        sscanf(hex + 1 + 2 * i, "%2hhx", &bytes[i]);
+    return bytes;
+}
+
+static void show(const uint8_t *bytes, size_t count)
+{
+    printf(" x");
+    for (size_t i = 0; i < count; i++)
+        printf("%02x", bytes[i]);
+}
+
+int main(void)
+{
+    static char line[65536], call[16], book_hex[32768], executions_hex[16384];
+    while (fgets(line, sizeof line, stdin) != NULL) {
+        uint32_t n[6] = {0};
+        sscanf(line, "%15s %32767s %16383s %u %u %u %u %u %u", call, book_hex, executions_hex, &n[0], &n[1], &n[2], &n[3], &n[4], &n[5]);
+        uint8_t *book = lend(book_hex), *executions = lend(executions_hex);
+        const size_t size = length(book_hex), room = length(executions_hex);
+        if (strcmp(call, "check") == 0) {
+            const ruhvasto_checked c = ruhvasto_check(book, size);
+            printf("%u %u", c.refusal, c.orders);
+        } else if (strcmp(call, "find") == 0) {
+            const ruhvasto_found f = ruhvasto_find(book, size, n[0]);
+            printf("%u %zu %zu", f.refusal, f.start, f.length);
+        } else if (strcmp(call, "add") == 0) {
+            const ruhvasto_add_request request = {
+                .side = n[0], .kind = n[1], .number = n[2], .price = n[3], .size = n[4], .minimum = n[5]};
+            printf("%u", ruhvasto_add(book, size, request));
+        } else if (strcmp(call, "reduce") == 0) {
+            printf("%u", ruhvasto_reduce(book, size, n[0], n[1]));
+        } else if (strcmp(call, "take") == 0) {
+            const ruhvasto_take_request request = {.side = n[0], .limit = n[1], .size = n[2], .algorithm = n[3]};
+            const ruhvasto_taken t = ruhvasto_take(book, size, executions, room, request);
+            printf("%u %u %u", t.refusal, t.count, t.left);
+        } else {
+            return 2;
+        }
+        show(book, size);
+        show(executions, room);
+        printf("\n");
+        fflush(stdout);
+        free(book);
+        free(executions);
+    }
+    return 0;
+}

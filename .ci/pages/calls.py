@@ -1,0 +1,227 @@
+"""docs/CALLS.md: the tables of calls, and the cases by hand."""
+import re
+
+from pages.library import CALLS, Wrong, answer, executions_in, fillsheet, listed, orders_in, sheet_of, traded
+from pages.markdown import codes, figures, number, read
+from pages.page import Page, tried, values_in
+
+
+class Calls(Page):
+    path = "docs/CALLS.md"
+    tables = {
+        "number | name in C | condition | calls": "refusals",
+        "calls | bytes of stack, less than | name in C": "stack",
+        "argument | range": "ranges",
+        "field of the request | range": "ranges",
+        "field | accepted | refused": "answers",
+        "buffer | answer: refusal, orders": "checks",
+        "buffer | looked for | answer: refusal, start, length": "finds",
+        "side, kind, number, price, size, minimum | returned | why": "adds",
+        "record | side | kind | number | price | size | minimum | setter mark": "records",
+        "number, shares | returned | orders afterwards: number, kind, size/minimum": "reduces",
+        "side, limit, size, algorithm | bytes for executions | returned: refusal, count, left | executions, in order | orders afterwards":
+            "taken",
+        "paragraph | algorithm 1 | algorithms 2 and 3": "paragraphs",
+        "order | size | exact share | first step | lacks | rest | second step | gets": "sharing",
+        "algorithm | paragraph | order | minimum | shares left | gets": "turns",
+    }
+    has = {"refusals": 1, "stack": 1, "prototypes": 5, "ranges": 4, "answers": 3, "checks": 1, "finds": 1, "adds": 1, "records": 1, "reduces": 1,
+           "taken": 1, "paragraphs": 1, "sharing": 5, "printed": 3, "turns": 1}
+    prose = ("condition", "why")
+    given = ("buffer", "looked for", "side, kind, number, price, size, minimum", "number, shares", "side, limit, size, algorithm", "bytes for executions")
+
+    def code(self, lines):
+        return "prototypes" if lines[0].startswith("C  ") else "printed" if self.before.endswith("Printed:") else None
+
+    def refusals(self, rows):
+        for (line, row), (value, name) in zip(rows, self.header.refusals, strict=True):
+            calls = ", ".join(call for call in CALLS if value == 0 or value in self.header.of_call[call])
+            self.hold(line, [row[0], row[1], row[3]], [str(value), f"`{name}`", calls])
+
+    def stack(self, rows):
+        names = {"check, find, add, reduce": "STACK_BYTES", "take": "TAKE_STACK_BYTES"}
+        for (line, row), (calls, name) in zip(rows, names.items(), strict=True):
+            self.hold(line, row, [calls, f"{self.header[name]:,}", f"`RUHVASTO_{name}`"])
+
+    # The header declares the form for C, and the crate named has the one for Rattle.
+    def prototypes(self, line, lines):
+        in_c, rattle = re.match(r"C (.*?;) Rattle (.*)$", " ".join(" ".join(lines).split())).groups()
+        self.hold(line, in_c in self.header.flat, True)
+        for crate, function in re.findall(r"(\w+)::(\w+.*?)(?= \w+::\w+[(<]|$)", rattle):
+            source = " ".join(read(f"crates/{crate}/src/lib.rt").split())
+            self.hold(line, f"pub fn {function} " in source, True)
+
+    # Whether the call of this section refuses 1, given some numbers in the place of its usual ones.
+    def refuses(self, **changed):
+        usual = {"Find": {"number": 1}, "Reduce": {"number": 1, "shares": 1}, "Take": {"side": 1, "limit": 1, "size": 1, "algorithm": 1},
+                 "Add": {"side": 1, "kind": 1, "number": 1, "price": 1, "size": 500, "minimum": 0}}[self.heading]
+        if set(changed) - set(usual):
+            raise Wrong(f"no such number: {changed}")
+        if self.heading == "Add" and changed.get("kind") == 3:
+            changed.setdefault("minimum", 1)
+        returned, _, _ = self.library.call(self.heading.lower(), b"", *{**usual, **changed}.values())
+        return returned[0] == 1
+
+    # Every range is tried at its ends and right outside, each value of a list too.
+    def ranges(self, rows):
+        fields = {"Find": ["`number`"], "Reduce": ["`number`", "`shares`"], "Take": ["`side`", "`limit`", "`size`", "`algorithm`"],
+                  "Add": ["`side`", "`kind`", "`number`", "`price`", "`size`", "`minimum`, kind 3", "`minimum`, kinds 1 and 2"]}[self.heading]
+        self.hold(rows[0][0], [row[0] for _, row in rows], fields)
+        for line, (name, values) in rows:
+            ends, inside = values_in(values, 500)
+            for kind in figures(name) or [None]:
+                base = {} if kind is None else {"kind": kind}
+                refused = [value for value in tried(ends) if self.refuses(**base, **{codes(name)[0]: value})]
+                self.hold(line, [value for value in tried(ends) if not inside(value)], refused)
+
+    def answers(self, rows):
+        call, record, orders = self.heading.lower(), self.header["RECORD_BYTES"], self.header["BOOK_ORDERS"]
+        accepted = {"check": {"`refusal`": [0], "`orders`": [0, orders]}, "take": {"`refusal`": [0], "`count`": [0, orders], "`left`": []},
+                    "find": {"`refusal`": [0], "`start`": [record], "`length`": [record], "the part, in Rattle": [record]}}[call]
+        for (line, row), (name, numbers) in zip(rows, accepted.items(), strict=True):
+            refused = self.header.of_call[call] if name == "`refusal`" else [0]
+            self.hold(line, [row[0], figures(row[1]), [] if row[2] == "empty" else figures(row[2])],
+                      [name, numbers, [] if name.startswith("the part") else refused])
+
+    # A buffer as the tables of check and find have it.
+    def buffer(self, said):
+        if match := re.match(r"(\d+) zeros$", said):
+            return bytes(int(match[1]))
+        match = re.match(r"the book(?:, byte (\d+) = (\w\w) hex)?$", said)
+        data = bytearray(self.book)
+        if match[1]:
+            if data[int(match[1])] == int(match[2], 16):
+                raise Wrong(f"no change: {said}")
+            data[int(match[1])] = int(match[2], 16)
+        return bytes(data)
+
+    def checks(self, rows):
+        for line, (buffer, said) in rows:
+            self.hold(line, said, answer(self.library.call("check", self.buffer(buffer))[0]))
+
+    def finds(self, rows):
+        for line, (buffer, sought, said) in rows:
+            self.hold(line, said, answer(self.library.call("find", self.buffer(buffer), number(sought))[0]))
+
+    def adds(self, rows):
+        for line, (numbers, said, _) in rows:
+            side, kind, order, price, size, minimum = figures(numbers)
+            returned, self.book, _ = self.library.call("add", self.book, side, kind, order, price, size, minimum)
+            self.hold(line, said, str(returned[0]))
+
+    def records(self, rows):
+        for place, ((line, row), order) in enumerate(zip(rows, orders_in(self.book), strict=True)):
+            self.hold(line, row, [str(n) for n in (place, *order)])
+        self.table_left = self.book
+
+    def reduces(self, rows):
+        for line, (numbers, said, after) in rows:
+            order, shares = figures(numbers)
+            returned, self.book, _ = self.library.call("reduce", self.book, order, shares)
+            self.hold(line, [said, after], [str(returned[0]), listed(orders_in(self.book))])
+
+    def taken(self, rows):
+        for line, (numbers, room, said, executions, after) in rows:
+            side, limit, size, algorithm = figures(numbers)
+            returned, self.book, buffer = self.library.call("take", self.book, side, limit, size, algorithm, executions=bytes(int(room)))
+            true = [answer(returned), traded(executions_in(returned[1], buffer)), listed(orders_in(self.book))]
+            self.hold(line, [said, executions, after], true)
+
+    def paragraphs(self, rows):
+        lot = self.header["ROUND_LOT"]
+        true = [[[2], [], [lot, 3]], [[3], [], [lot]], [[4], [], [lot]], [[5], [], []], [[6], [], [lot]]]
+        for (line, row), numbers in zip(rows, true, strict=True):
+            self.hold(line, [figures(cell) for cell in row], numbers)
+
+    # The orders that the take may trade with; in a case by hand they are at one price.
+    def opposite(self):
+        side, limit = self.takes[0][:2]
+        found = [o for o in orders_in(self.start) if o.side != side and (o.price <= limit if side == 1 else o.price >= limit)]
+        if len({o.price for o in found}) != 1:
+            raise Wrong("not one price within the limit")
+        return found
+
+    def round_lots(self):
+        group = [o for o in self.opposite() if o.kind == 1 and o.size >= self.header["ROUND_LOT"]]
+        return group, min(self.takes[0].size, sum(o.size for o in group))
+
+    def gets(self, algorithm):
+        return self.library.take(self.start, self.takes[0]._replace(algorithm=algorithm))[0]
+
+    # Lot sharing by hand, plain or beside the setter; and what the library gives, of which plain sharing is algorithm 2's.
+    def sharing(self, rows):
+        form, total, shares = re.search(r"(Plain|Beside the setter), S = ([\d,]+), Q = ([\d,]+):$", self.before).groups()
+        group, divided = self.round_lots()
+        true = self.gets(2 if form == "Plain" else 3)
+        if form == "Plain":
+            self.plain = true
+        else:
+            group, divided = [o for o in group if not o.setter], divided - self.guarantee
+        self.hold(rows[0][0], [number(total), number(shares)], [sum(o.size for o in group), divided])
+        steps = lot_sharing(divided, group, self.header["ROUND_LOT"])
+        for (line, row), o in zip(rows, group, strict=True):
+            tenths, first, rest, second = steps[o.number]
+            numbers = [o.number, o.size, first, o.size - first, rest, second, true[o.number]]
+            self.hold(line, [*row[:2], *row[3:]], [f"{n:,}" for n in numbers])
+            self.hold(line, [row[2], first + second], [f"{tenths / 10:,.1f}", true[o.number]])
+
+    def word_guarantee(self, line, said):
+        group, divided = self.round_lots()
+        setter = next(o for o in group if o.setter)
+        self.guarantee, plain = min(setter.size, 2 * divided // 5), self.plain[setter.number]
+        self.hold(line, said, f"the smaller of {setter.size:,} and 2 × {divided:,} ÷ 5, so {self.guarantee:,}")
+        more = "is more" if plain > self.guarantee else "isn't more"
+        self.hold(line, f"Plain sharing gives the setter {plain:,}, which {more}." in self.before, True)
+        self.hold(line, self.gets(3)[setter.number], self.guarantee)
+
+    # A case by hand has the book and take of the case of its letter.
+    def word_take(self, line, said):
+        super().word_take(line, said)
+        cases = read("docs/READINGS.md")
+        for take in self.takes:
+            row = f"| {said.replace(' at 100000', '').split(', ')[0]}, algorithm {take.algorithm} |"
+            letter = re.match(r"Case (\w)", self.heading)[1]
+            self.hold(line, f"| {letter} | {self.words_of_book} {row}" in cases, True)
+
+    # The book of check and find is case c's.
+    def word_book(self, line, said):
+        super().word_book(line, said)
+        self.words_of_book = said
+        if self.heading in ("Check", "Find"):
+            self.hold(line, f"| c | {said} |" in read("docs/READINGS.md"), True)
+
+    def printed(self, line, lines):
+        self.hold(line, lines, fillsheet(sheet_of(self.start, self.takes[0])))
+
+    def turns(self, rows):
+        true = []
+        for take in self.takes:
+            left, gets = take.size, self.library.take(self.start, take)[0]
+            for o in sorted(self.opposite(), key=lambda o: turn(o, take.algorithm)):
+                true.append([f"{n:,}" for n in (take.algorithm, turn(o, take.algorithm)[0], o.number, o.minimum, left, gets[o.number])])
+                left -= gets[o.number]
+        for (line, row), words in zip(rows, true, strict=True):
+            self.hold(line, row, words)
+
+
+# Lot sharing step by step: for each order its exact share in tenths, the first step, the rest at its turn, and the second step.
+def lot_sharing(shares, orders, lot):
+    total = sum(o.size for o in orders)
+    first = {o.number: o.size * shares // total // lot * lot for o in orders}
+    rest, steps = shares - sum(first.values()), {}
+    for o in sorted(orders, key=lambda o: (-o.size, o.number)):
+        second = min(lot, o.size - first[o.number], rest)
+        steps[o.number] = (o.size * shares * 10 // total, first[o.number], rest, second)
+        rest -= second
+    return steps
+
+
+# The paragraph that an order stands in, and its turn in it; under pro rata for orders that share in turn.
+def turn(order, algorithm):
+    if algorithm == 1:
+        return (2 if order.kind == 1 else 3), order.number
+    if order.kind == 3:
+        return 5, order.minimum, order.number
+    if order.size >= 100:
+        raise Wrong("an order that shares by lots")
+    return (3 if order.kind == 1 else 6), -order.size, order.number

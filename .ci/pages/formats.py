@@ -1,0 +1,153 @@
+"""docs/FORMATS.md: limits, layouts, dumps and sheets."""
+import re
+
+from pages.library import Execution, answer, dump, executions_in, fillsheet, is_longest_sheet, orders_in, traded
+from pages.markdown import codes, figures, number, read
+from pages.page import Page, tried, values_in
+
+FIELDS = {"mark": 2, "side": 1, "kind": 1, "order number": 4, "price": 4, "size": 4, "minimum": 4, "setter mark": 1, "none": 11}
+
+
+class Formats(Page):
+    path = "docs/FORMATS.md"
+    tables = {
+        "what | least | most": "limits",
+        "bytes | width | field | values": "layout",
+        "place, hex | bytes | field | number | meaning": "fields",
+        "line | does | fields": "commands",
+        "number | when": "printable",
+        "line | printed | why": "lines",
+    }
+    has = {"limits": 1, "layout": 2, "dump": 4, "fields": 1, "grammar": 2, "commands": 1, "printable": 1, "sheet": 1, "printed": 1, "lines": 1}
+    prose = ("why", "meaning")
+    given = ("line",)
+
+    def code(self, lines):
+        if re.match(r"0000:", lines[0]):
+            return "dump"
+        if re.match(r"(sheet|printed) +=", lines[0]):
+            return "grammar"
+        return {"Printed:": "printed", "Case c whole, as a sheet:": "sheet"}.get(self.before)
+
+    def limits(self, rows):
+        h = self.header
+        true = {
+            "bytes of a book": [0, h["BOOK_BYTES"]], "bytes of a record": [h["RECORD_BYTES"]] * 2, "orders of a book": [0, h["BOOK_ORDERS"]],
+            "order number": [1, 4294967295], "price, limit price": [1, h["PRICE_MOST"]], "size, shares of a reduce": [1, h["SIZE_MOST"]],
+            "minimum, kind 3": [1], "minimum, kinds 1 and 2": [0, 0], "bytes of an execution": [h["EXECUTION_BYTES"]] * 2,
+            "bytes of an execution buffer": [0, h["EXECUTIONS_BYTES"]],
+            "executions of one take": [0, h["EXECUTIONS_BYTES"] // h["EXECUTION_BYTES"]], "shares of an execution": [1, h["SIZE_MOST"]],
+            "bytes of a sheet for `fillsheet`": [0, 65536],
+        }
+        for (line, row), (what, numbers) in zip(rows, true.items(), strict=True):
+            self.hold(line, [row[0], figures(row[1]) + figures(row[2])], [what, numbers])
+        self.hold(rows[-1][0], is_longest_sheet(number(rows[-1][1][2])), True)
+
+    # A form of bytes: places without a gap, widths, and the values at each.
+    def layout(self, rows):
+        executions = self.heading == "The execution"
+        at = 0
+        for line, (places, width, field, values) in rows:
+            first, *last = figures(places)
+            last = last[0] if last else first
+            self.hold(line, [first, int(width)], [at, last - first + 1])
+            at = last + 1
+            (self.execution_field if executions else self.record_field)(line, first, int(width), field, values)
+        self.hold(rows[-1][0], at, self.header["EXECUTION_BYTES" if executions else "RECORD_BYTES"])
+
+    def execution_field(self, line, first, width, field, values):
+        _, _, buffer = self.library.call("take", self.library.book("D 600 at 4660"), 1, 4660, 500, 2, executions=bytes([255] * 16))
+        true = {0: ("mark", buffer[:2].hex(" ").upper() + " hex"), 2: ("none", "zero"), 4: ("order number of the resting order", "as in its record"),
+                8: ("price of the resting order, at which the shares are traded", "as in its record"),
+                12: ("shares", f"1 to {self.header['SIZE_MOST']:,}")}[first]
+        self.hold(line, (field, values), true)
+        self.hold(line, [buffer[2:4], *executions_in(1, buffer)], [bytes(2), Execution(1, 4660, 500)])
+
+    # What check takes for sound at this place, at the ends of the values and right outside.
+    def record_field(self, line, first, width, field, values):
+        if field == "mark":
+            mark = int.from_bytes(bytes.fromhex(values.removesuffix(" hex")), "little")
+            return self.hold(line, [self.is_sound(first, width, value) for value in (mark, mark ^ 1, mark ^ 256)], [True, False, False])
+        fixed = {"minimum": ("1 to the size for kind 3, 0 for kinds 1 and 2", {3: "1 to the size", 1: "0", 2: "0"}),
+                 "setter mark": ("0 or 1; 1 only for kind 1", {1: "0 to 1", 2: "0", 3: "0"}), "none": ("zero", {1: "0"})}
+        words, kinds = fixed.get(field, (values, {1: values}))
+        self.hold(line, values, words)
+        for kind, range_ in kinds.items():
+            ends, inside = values_in(range_, 500)
+            true = [value for value in tried(ends, width) if self.is_sound(first, width, value, kind)]
+            self.hold(line, [value for value in tried(ends, width) if inside(value)], true)
+
+    def is_sound(self, first, width, value, kind=1):
+        record = bytearray(self.library.book({1: "D 500", 2: "H 500", 3: "M 500/500"}[kind]))
+        record[first:first + width] = value.to_bytes(width, "little")
+        if (first, width) == (3, 1):  # another kind has another minimum, and no mark
+            record[16:20], record[20] = (500 if value == 3 else 0).to_bytes(4, "little"), 0
+        return self.library.call("check", bytes(record))[0][0] == 0
+
+    def word_take(self, line, said):
+        super().word_take(line, said)
+        room, each = re.search(r"The execution buffer has (\d+) bytes, each (\w\w) hex before\.", self.before).groups()
+        returned, self.book, self.executions = self.library.call(
+            "take", self.book, *self.takes[0], executions=bytes.fromhex(each) * int(room))
+        self.count = returned[1]
+        self.hold(line, re.search(r"It returns (`.*?`)", self.before)[1], answer(returned))
+
+    def word_reduce(self, line, said):
+        order, shares = map(number, re.match(r"order ([\d,]+) by ([\d,]+)$", said).groups())
+        (refusal,), self.book, _ = self.library.call("reduce", self.book, order, shares)
+        self.hold(line, refusal, 0)
+
+    def dump(self, line, lines):
+        of = re.match(r"\*\*Dump\*\* of the (book|execution buffer)\b", self.before)[1]
+        if of == "book":
+            orders = orders_in(self.book)
+            remarks = {32 * i: f"order {o.number}" for i, o in enumerate(orders)} | {32 * len(orders): "free"}
+        else:
+            executions = executions_in(self.count, self.executions)
+            remarks = {16 * i: traded([e]) for i, e in enumerate(executions)} | {16 * self.count: "as it was"}
+        self.dumped = self.book if of == "book" else self.executions
+        for i, (said, true) in enumerate(zip(lines, dump(self.dumped, remarks), strict=True)):
+            self.hold(line + i, said, true)
+
+    # A record of the last dump, field by field.
+    def fields(self, rows):
+        start = int(rows[0][1][0].split()[0], 16)
+        record = self.dumped[start:start + 32]
+        self.hold(rows[0][0], self.before, f"The record of order {orders_in(record)[0].number}, field by field:")
+        at = 0
+        for (line, row), (field, width) in zip(rows, FIELDS.items(), strict=True):
+            data, last = record[at:at + width], start + at + width - 1
+            places = f"{start + at:02x}" + (f" to {last:02x}" if width > 1 else "")
+            value = int.from_bytes(data, "little")
+            self.hold(line, row[:4], [places, data.hex(" "), field, "" if field == "mark" else str(value) if field == "price" else f"{value:,}"])
+            at += width
+
+    def grammar(self, line, lines):
+        pass
+
+    def commands(self, rows):
+        for (line, row), numbers in zip(rows, [[1, 2, 3], [1, 2, 1, 2, 3], [], []], strict=True):
+            self.hold(line, figures(" | ".join(row)), numbers)
+
+    # The refusals that fillsheet can print: those of its calls but 2 and 8, of which the page cites the proof that they never come.
+    def printable(self, rows):
+        refusals = {n for call in ("add", "reduce", "take") for n in self.header.of_call[call]} - {2, 8}
+        for (line, row), value in zip(rows, sorted(refusals), strict=True):
+            self.hold(line, [figures(cell) for cell in row], [[value], [self.header["BOOK_ORDERS"]] if value == 6 else []])
+
+    # Case c's sheet is the one that rt ci runs.
+    def sheet(self, line, lines):
+        self.hold(line, lines, read("crates/fillsheet/stdin").splitlines())
+        self.sheet_lines = lines
+
+    def printed(self, line, lines):
+        self.hold(line, lines, fillsheet(self.sheet_lines))
+
+    # A sheet line by line, with what each line prints.
+    def lines(self, rows):
+        sheet, before = [], 0
+        for line, (command, said, _) in rows:
+            sheet += codes(command)
+            printed = fillsheet(sheet)
+            self.hold(line, [] if said == "nothing" else said.split(", "), [f"`{words}`" for words in printed[before:]])
+            before = len(printed)

@@ -1,0 +1,156 @@
+"""What the pages are held to: the header's constants, the library's calls and fillsheet; and their answers as the pages write them."""
+import collections
+import functools
+import os
+import re
+import subprocess
+
+from pages.markdown import number, read
+
+HEADER, ARCHIVE, FILLSHEET = "include/ruhvasto.h", "target/staticlib/libruhvasto.a", "target/bin/fillsheet"
+CALLS = ["check", "find", "add", "reduce", "take"]
+SIDES = {"buy": 1, "sell": 2}
+KINDS = {"D": 1, "H": 2, "M": 3}
+ORDER = re.compile(r"(?:(buy|sell) )?([DHM]) ([\d,]+)(?:/([\d,]+))?(?: at (\d+))?$")
+TAKE = re.compile(r"(buy|sell) ([\d,]+)(?: at (\d+))?, algorithms? (\d)(?: and (\d))?$")
+
+Order = collections.namedtuple("Order", "side kind number price size minimum setter")
+Execution = collections.namedtuple("Execution", "number price shares")
+Take = collections.namedtuple("Take", "side limit size algorithm")
+
+
+class Wrong(Exception):
+    """What can't be read, or done."""
+
+
+# The constants of the header, its refusals, and those that it says of each call.
+class Header:
+    def __init__(self):
+        text = read(HEADER)
+        self.flat = " ".join(text.split())
+        self.constants = {name: int(value) for name, value in re.findall(r"RUHVASTO_(\w+)(?: =)? (\d+)\b", text)}
+        listed = re.search(r"/\* Refusal numbers\. \*/\nenum \{(.*?)\n\};", text, re.S)[1]
+        self.refusals = [(int(value), name) for name, value in re.findall(r"(RUHVASTO_\w+) = (\d+)", listed)]
+        numbers = {name: value for value, name in self.refusals}
+        said = re.findall(r"Refusals: ((?:RUHVASTO_\w+[, ]*)+)\. \*/[^;]*?\bruhvasto_(\w+)\([^;]*;", self.flat)
+        self.of_call = {call: [numbers[name] for name in re.findall(r"\w+", names)] for names, call in said}
+
+    def __getitem__(self, name):
+        return self.constants[name]
+
+
+def compile_c(source, program):
+    words = ["cc", "-std=c99", "-Wall", "-Wextra", "-Werror", "-Iinclude", source, ARCHIVE, "-o", program]
+    if (compiled := subprocess.run(words, capture_output=True, text=True)).returncode:
+        raise Wrong(f"it doesn't compile:\n{compiled.stderr}")
+
+
+# The library, through a program that makes the calls it is told.
+class Library:
+    def __init__(self, folder):
+        program = os.path.join(folder, "documents")
+        compile_c(".ci/documents.c", program)
+        self.process = subprocess.Popen([program], stdin=subprocess.PIPE, stdout=subprocess.PIPE, text=True)
+
+    # The numbers that a call returns, and both buffers afterwards.
+    def call(self, name, book, *numbers, executions=b""):
+        if max(numbers, default=0) > 4294967295:
+            raise Wrong(f"a number of more than four bytes: {numbers}")
+        self.process.stdin.write(f"{name} x{book.hex()} x{executions.hex()} {' '.join(map(str, numbers))}\n")
+        self.process.stdin.flush()
+        *answer, book, executions = self.process.stdout.readline().split()
+        return tuple(map(int, answer)), bytes.fromhex(book[1:]), bytes.fromhex(executions[1:])
+
+    # A book made by adding orders: 'D 600, buy M 500/400 at 99900', with '4 records, ' in front where it has room for more.
+    def book(self, said):
+        room = re.match(r"(\d+) records, ", said)
+        said = said[room.end():] if room else said
+        words = [] if said == "empty" else said.split(", ")
+        book = bytes(32 * (int(room[1]) if room else len(words)))
+        for place, word in enumerate(words, 1):
+            match = ORDER.match(word)
+            if not match or (match[2] == "M") != bool(match[4]):
+                raise Wrong(f"no order: {word}")
+            numbers = (SIDES[match[1] or "sell"], KINDS[match[2]], place, int(match[5] or 100000), number(match[3]), number(match[4] or "0"))
+            (refusal,), book, _ = self.call("add", book, *numbers)
+            if refusal:
+                raise Wrong(f"refused {refusal}: {word}")
+        return book
+
+    # A take from a book that has room for all its executions: what each order gets, the executions, what is left, the book afterwards.
+    def take(self, book, take):
+        (refusal, count, left), after, buffer = self.call("take", book, *take, executions=bytes(4096))
+        if refusal:
+            raise Wrong(f"the take is refused {refusal}")
+        executions = executions_in(count, buffer)
+        return collections.Counter({e.number: e.shares for e in executions}), executions, left, after
+
+
+# Takes as the pages write them, one for each algorithm: 'buy 220 at 100000, algorithms 1 and 2'.
+def takes_in(said):
+    match = TAKE.match(said)
+    if not match:
+        raise Wrong(f"no take: {said}")
+    return [Take(SIDES[match[1]], int(match[3] or 100000), number(match[2]), int(a)) for a in match.groups()[3:] if a]
+
+
+def fillsheet(lines):
+    return list(printed_of("".join(line + "\n" for line in lines)))
+
+
+@functools.lru_cache(maxsize=None)
+def printed_of(sheet):
+    return subprocess.run([FILLSHEET], input=sheet, check=True, capture_output=True, text=True).stdout.splitlines()
+
+
+# The longest sheet that fillsheet looks at, if that is so many line feeds: of one more it prints one line, not one for each.
+@functools.lru_cache(maxsize=None)
+def is_longest_sheet(feeds):
+    return len(fillsheet([""] * feeds)) == feeds and len(fillsheet([""] * (feeds + 1))) == 1
+
+
+# A book and a take as a sheet.
+def sheet_of(book, take):
+    letters = {1: "B", 2: "S"}
+    adds = [f"{letters[o.side]} {o.number} {letter(o.kind)} {o.price} {o.size} {o.minimum}" for o in orders_in(book)]
+    return [f"A {take.algorithm}", *adds, f"T {letters[take.side]} {take.limit} {take.size}"]
+
+
+def numbers_at(data, places):
+    return [int.from_bytes(data[at:at + 4], "little") for at in places]
+
+
+def orders_in(book):
+    records = (book[at:at + 32] for at in range(0, len(book), 32))
+    return [Order(r[2], r[3], *numbers_at(r, (4, 8, 12, 16)), r[20]) for r in records if r[0]]
+
+
+def executions_in(count, buffer):
+    return [Execution(*numbers_at(buffer, (at + 4, at + 8, at + 12))) for at in range(0, 16 * count, 16)]
+
+
+def letter(kind):
+    return next(name for name, value in KINDS.items() if value == kind)
+
+
+# Orders as the tables have them: number, kind, size and minimum.
+def listed(orders):
+    sizes = (f"{o.number} {letter(o.kind)} {o.size:,}" + (f"/{o.minimum:,}" if o.kind == 3 else "") for o in orders)
+    return ", ".join(sizes) or "none"
+
+
+def traded(executions):
+    return ", ".join(f"{e.shares:,} of {e.number} at {e.price}" for e in executions) or "none"
+
+
+def answer(numbers):
+    return "`{" + ", ".join(map(str, numbers)) + "}`"
+
+
+# Bytes as a dump has them, with a remark behind some rows.
+def dump(data, remarks):
+    for at in range(0, len(data), 16):
+        row = data[at:at + 16]
+        words = "  ".join(row[i:i + 4].hex(" ") for i in range(0, 16, 4))
+        text = "".join(chr(b) if 32 <= b < 127 else "." for b in row)
+        yield f"{at:04x}:  {words}   |{text}|   {remarks.get(at, '')}".rstrip()
