@@ -25,11 +25,12 @@ sum_272:
         je 1f
         sub rsp, 0x100
         mov qword ptr [rsp + 8], rsp
+        add rcx, rsp
         call memset
         add rsp, 0x100
         ret
 1:      push rax
-        call memcpy
+        call memmove
         pop rax
         ret
 

@@ -2,7 +2,7 @@
  * Rule 3307 (SR-Phlx-2014-24), by price/time, pro rata, or pro rata with the price-setter variation.
  *
  * For x86-64 Linux: C's calling convention there (System V), no instruction beyond those that every x86-64 processor has. The code is
- * position independent. It is linked by -lruhvasto, and needs memcpy, memmove and memset of the C library and nothing else.
+ * position independent. It is linked by -lruhvasto, and needs memmove and memset of the C library and nothing else.
  *
  * WHAT THE CALLER OWES. Every number may have any value: one that is out of its range is refused. One duty is left, and nothing checks it:
  *   - each pointer is to as many bytes as the length behind it says, to be read and, where the pointer isn't const, written;
@@ -13,7 +13,7 @@
  *
  * WHAT THE CALLER GETS. Every call ends. Nothing is allocated, and nothing is kept between calls: calls on buffers of their own may run in
  * any number of threads at once. Take uses less than RUHVASTO_TAKE_STACK_BYTES of stack and every other call less than
- * RUHVASTO_STACK_BYTES, beside what those three functions of the C library use. It is proved of the source that what a call returns and
+ * RUHVASTO_STACK_BYTES, beside what those two functions of the C library use. It is proved of the source that what a call returns and
  * every byte that it leaves in each buffer is what the definitions of the rule say, refused or not; the compiler is trusted.
  *
  * A REFUSED CALL returns its refusal number, 0 in every other number that it returns, and changes no byte of any buffer. The refusals are
@@ -50,7 +50,7 @@ extern "C" {
 #define RUHVASTO_REQUESTS 0
 
 /* Bytes of stack that are enough for take, and for every other call. */
-#define RUHVASTO_TAKE_STACK_BYTES 60000
+#define RUHVASTO_TAKE_STACK_BYTES 16000
 #define RUHVASTO_STACK_BYTES 3000
 
 /* THE BOOK is a buffer of 0 to 8,192 bytes, a whole number of records of 32 bytes. Orders fill its front, in rising order number, which is

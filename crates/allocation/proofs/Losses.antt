@@ -1,103 +1,174 @@
--- What each of a book's orders loses, side by side: losses added up, losses of nothing, and the losses of several allocations.
-use Prim.Native.Nat.{ℕ, _≤_}
+-- What each order loses by allocations: all that they give it, and it has no other shares.
+use Prim.Native.Nat.{ℕ, zero, suc, _+_, _-_, _≤_, _<_}
 use mathlib.Core.Path.{_≡_, refl, sym, ap, ap₂, _∙_}
-use mathlib.Core.List.{List, [], _∷_, _++_, map}
+use mathlib.Core.List.{List, [], _∷_, map}
 use native.Mathlib.Omega.{arith}
-use native.Mathlib.Nat.{zero-add, add-zero, add-assoc}
-use lib.ListN.{length, take, length-map, length-take}
-use Rattle.units.specs.Lists.{sum, total, zipWith}
+use lib.ListN.{length, getD, take, length-map, List·getD-map}
+use lib.Seq.{length-take-le, getD-take}
+use Rattle.units.specs.Lists.{total, zipWith}
+use Rattle.units.proofs.Tests.{pick-least}
+use Rattle.units.proofs.Members.{Every}
+use Rattle.sharing.specs.Rank.{Part}
+use Rattle.sharing.proofs.Filled.{Each}
+use Rattle.orders.specs.declared.order.Kind.{Kind}
+use Rattle.orders.specs.declared.order.Kind.the-variants.{Displayed, NonDisplayed, MinimumQuantity}
 use Rattle.orders.specs.declared.order.Order.{Order}
-use Rattle.orders.specs.Order.{Visibility, shown, hidden, Interest, interest, noInterest, onlyOf, together}
+use Rattle.orders.specs.declared.order.Taker.{Taker}
+use Rattle.orders.specs.Order.{Visibility, shown, hidden, Interest, interest, noInterest, sharesOf, onlyOf, together, interestBy, interestOf, sizeOf, withInterest, settled}
 use Rattle.orders.specs.Losses.{lossesIn}
-use Rattle.matching.specs.Take.{Allocation, used, lossesOf}
+use Rattle.book.proofs.Soundness.{OrdersSound}
+use Rattle.matching.specs.declared.Algorithm.{Algorithm}
+use Rattle.matching.specs.Paragraph.{groupOf, partOf}
+use Rattle.matching.specs.Take.{Allocation, used, allocationAt, lossesOf}
 use Rattle.matching.proofs.Entries.{Aligned}
+use Rattle.matching.proofs.Parts.{stands, part-size, allotted}
+use Rattle.matching.proofs.Allotting.{allotment-filled}
+use Rattle.allocation.proofs.Along.{Cell, along}
 
--- no loss for any order
-abbrev pub noLosses : List Order → List Interest
-noLosses os = map (λ o. noInterest) os
+module _ {A B C : Type 0} (f : A → B → C) where
+  -- lists side by side, at a place
+  get-zip : (xs : List A) (ys : List B) (j : ℕ) (x : A) (y : B) (z : C) → j < length xs → j < length ys
+      → getD (zipWith f xs ys) j z ≡ f (getD xs j x) (getD ys j y)
+  get-zip [] ys j x y z h k = absurd (omega arith)
+  get-zip (a ∷ xs) [] j x y z h k = absurd (omega arith)
+  get-zip (a ∷ xs) (b ∷ ys) zero x y z h k = refl
+  get-zip (a ∷ xs) (b ∷ ys) (suc j) x y z h k = get-zip xs ys j x y z (omega arith) (omega arith)
 
--- losses added up order by order
-abbrev pub addedUp : List Interest → List Interest → List Interest
-addedUp = zipWith together
+  length-zip : (xs : List A) (ys : List B) → length xs ≡ length ys → length (zipWith f xs ys) ≡ length ys
+  length-zip [] [] e = refl
+  length-zip [] (y ∷ ys) e = absurd (omega arith)
+  length-zip (x ∷ xs) [] e = absurd (omega arith)
+  length-zip (x ∷ xs) (y ∷ ys) e = ap suc (length-zip xs ys (omega arith))
 
--- they add up in any grouping
-pub added-assoc : (a b c : List Interest) → addedUp (addedUp a b) c ≡ addedUp a (addedUp b c)
-added-assoc [] b c = refl
-added-assoc (x ∷ a) [] c = refl
-added-assoc (x ∷ a) (y ∷ b) [] = refl
-added-assoc (x ∷ a) (y ∷ b) (z ∷ c) =
-    ap₂ (λ i is. i ∷ is)
-    (ap₂ interest (add-assoc (x .displayed) (y .displayed) (z .displayed)) (add-assoc (x .nonDisplayed) (y .nonDisplayed) (z .nonDisplayed)))
-    (added-assoc a b c)
+-- orders that lose alike are left alike
+settled-alike : (xs ys : List Interest) (os : List Order) → length xs ≡ length os → length ys ≡ length os
+    → ((j : ℕ) (z : Order) → j < length os → settled (getD xs j noInterest) (getD os j z) ≡ settled (getD ys j noInterest) (getD os j z))
+    → zipWith settled xs os ≡ zipWith settled ys os
+settled-alike [] [] os e f h = refl
+settled-alike [] (y ∷ ys) [] e f h = absurd (omega arith)
+settled-alike [] (y ∷ ys) (o ∷ os) e f h = absurd (omega arith)
+settled-alike (x ∷ xs) [] [] e f h = absurd (omega arith)
+settled-alike (x ∷ xs) [] (o ∷ os) e f h = absurd (omega arith)
+settled-alike (x ∷ xs) (y ∷ ys) [] e f h = absurd (omega arith)
+settled-alike (x ∷ xs) (y ∷ ys) (o ∷ os) e f h =
+    ap₂ _∷_ (h 0 o (omega arith)) (settled-alike xs ys os (omega arith) (omega arith) (λ j z l. h (suc j) z (omega arith)))
 
--- losses added to none
-pub none-added : (os : List Order) (a : List Interest) → length a ≤ length os → addedUp (noLosses os) a ≡ a
-none-added [] [] h = refl
-none-added [] (x ∷ a) h = absurd (omega arith)
-none-added (o ∷ os) [] h = refl
-none-added (o ∷ os) (x ∷ a) h =
-    ap₂ (λ i is. i ∷ is) (ap₂ interest (zero-add (x .displayed)) (zero-add (x .nonDisplayed))) (none-added os a (omega arith))
+-- what allocations take from the order at a place
+abbrev lossAt : List Allocation → ℕ → Interest
+lossAt [] j = noInterest
+lossAt (a ∷ rows) j = together (onlyOf (a .visibility) (getD (a .allotment) j 0)) (lossAt rows j)
 
--- none added to losses
-pub added-none : (os : List Order) (a : List Interest) → length a ≤ length os → addedUp a (noLosses os) ≡ a
-added-none os [] h = refl
-added-none [] (x ∷ a) h = absurd (omega arith)
-added-none (o ∷ os) (x ∷ a) h =
-    ap₂ (λ i is. i ∷ is) (ap₂ interest (add-zero (x .displayed)) (add-zero (x .nonDisplayed))) (added-none os a (omega arith))
-
--- two lists side by side go no further than the second
-zip-few : {A B C : Type 0} (f : A → B → C) (xs : List A) (ys : List B) → length (zipWith f xs ys) ≤ length ys
-zip-few f [] ys = omega arith
-zip-few f (x ∷ xs) [] = omega arith
-zip-few f (x ∷ xs) (y ∷ ys) = omega (arith, zip-few f xs ys)
-
--- the losses in code are those of at most n orders
-pub losses-few : (n : ℕ) (xs ys : List ℕ) → length (lossesIn n xs ys) ≤ n
-losses-few n xs ys =
-    omega (arith, zip-few interest (take n xs) (take n ys), length-take n ys)
-
--- shares of one visibility, one number for each order
-abbrev lossesBy : Visibility → List ℕ → List Interest
-lossesBy v ns = map (onlyOf v) ns
-
--- numbers that add up to nothing are no loss for any order
-nothing-allotted : (v : Visibility) (os : List Order) (ns : List ℕ) → length ns ≡ length os → sum ns ≡ 0 → lossesBy v ns ≡ noLosses os
-nothing-allotted v [] [] h z = refl
-nothing-allotted v [] (n ∷ ns) h z = absurd (omega arith)
-nothing-allotted v (o ∷ os) [] h z = absurd (omega arith)
-nothing-allotted v (o ∷ os) (n ∷ ns) h z =
-    let e : n ≡ 0 = omega arith in
-    ap₂ (λ i is. i ∷ is) (ap (onlyOf v) e ∙ only-none v) (nothing-allotted v os ns (omega arith) (omega arith))
-  where
-    only-none : (w : Visibility) → onlyOf w 0 ≡ noInterest
-    only-none shown = refl
-    only-none hidden = refl
+-- what they give it
+abbrev pub givenAt : List Allocation → ℕ → ℕ
+givenAt rows j = total (λ a. getD (a .allotment) j 0) rows
 
 module _ (os : List Order) where
-  -- allocations have losses of no more orders than there are
-  pub losses-most : (rows : List Allocation) → length (lossesOf os rows) ≤ length os
+  losses-long : (rows : List Allocation) → Aligned os rows → length (lossesOf os rows) ≡ length os
   unfolding lossesOf
-  losses-most [] = omega (arith, length-map os (λ o. noInterest))
-  losses-most (a ∷ rows) = omega (arith, zip-few together (lossesBy (a .visibility) (a .allotment)) (lossesOf os rows), losses-most rows)
+  losses-long [] a = length-map os (λ o. noInterest)
+  losses-long (r ∷ rows) a =
+      let l = losses-long rows (a .1) in
+      length-zip together (map (onlyOf (r .visibility)) (r .allotment)) (lossesOf os rows)
+      (length-map (r .allotment) (onlyOf (r .visibility)) ∙ a .0 ∙ sym l) ∙ l
 
-  -- the losses of allocations one behind another are added up
-  pub losses-append : (rows more : List Allocation) → lossesOf os (rows ++ more) ≡ addedUp (lossesOf os rows) (lossesOf os more)
+  losses-at : (rows : List Allocation) → Aligned os rows → (j : ℕ) → j < length os → getD (lossesOf os rows) j noInterest ≡ lossAt rows j
   unfolding lossesOf
-  losses-append [] more = sym (none-added os (lossesOf os more) (losses-most more))
-  losses-append (a ∷ rows) more =
-      ap (addedUp (lossesBy (a .visibility) (a .allotment))) (losses-append rows more)
-      ∙ sym (added-assoc (lossesBy (a .visibility) (a .allotment)) (lossesOf os rows) (lossesOf os more))
+  losses-at [] a j h = none os j
+    where
+      none : (xs : List Order) (k : ℕ) → getD (map (λ o. noInterest) xs) k noInterest ≡ noInterest
+      none [] k = refl
+      none (x ∷ xs) zero = refl
+      none (x ∷ xs) (suc k) = none xs k
+  losses-at (r ∷ rows) a j h =
+      let v = onlyOf (r .visibility) in
+      get-zip together (map v (r .allotment)) (lossesOf os rows) j (v 0) noInterest noInterest (omega (arith, length-map (r .allotment) v, a .0))
+      (omega (arith, losses-long rows (a .1)))
+      ∙ ap₂ together (List·getD-map v (r .allotment) j 0) (losses-at rows (a .1) j h)
 
-  -- one allocation is a loss of what it allots
-  pub losses-one : (a : Allocation) → length (a .allotment) ≡ length os → lossesOf os (a ∷ []) ≡ lossesBy (a .visibility) (a .allotment)
-  unfolding lossesOf
-  losses-one a h =
-      added-none os (lossesBy (a .visibility) (a .allotment)) (omega (arith, length-map (a .allotment) (onlyOf (a .visibility))))
+-- each gives an order no more than it has of its visibility
+abbrev Seen : Order → ℕ → List Allocation → Type 0
+Seen o j rows = Every (λ a. getD (a .allotment) j 0 ≤ sharesOf (a .visibility) (interestOf o)) rows
 
-  -- allocations that use up nothing are no loss
-  pub losses-unused : (rows : List Allocation) → Aligned os rows → total used rows ≡ 0 → lossesOf os rows ≡ noLosses os
-  unfolding lossesOf
-  losses-unused [] h z = refl
-  losses-unused (a ∷ rows) h z =
-      ap₂ addedUp (nothing-allotted (a .visibility) os (a .allotment) (h .0) (omega arith)) (losses-unused rows (h .1) (omega arith))
-      ∙ none-added os (noLosses os) (omega (arith, length-map os (λ o. noInterest)))
+-- a displayed order loses displayed shares alone, any other non-displayed ones
+shown-loss : (n j : ℕ) (rows : List Allocation) → Every (λ a. getD (a .allotment) j 0 ≤ sharesOf (a .visibility) (interest n 0)) rows
+    → lossAt rows j .displayed ≡ givenAt rows j
+shown-loss n j [] s = refl
+shown-loss n j (a ∷ rows) s = go (a .visibility) (s .0) (shown-loss n j rows (s .1))
+  where
+    g : ℕ
+    g = getD (a .allotment) j 0
+
+    go : (v : Visibility) → g ≤ sharesOf v (interest n 0) → lossAt rows j .displayed ≡ givenAt rows j
+        → onlyOf v g .displayed + lossAt rows j .displayed ≡ g + givenAt rows j
+    go shown l r = ap (λ m. g + m) r
+    go hidden l r = omega arith
+
+hidden-loss : (n j : ℕ) (rows : List Allocation) → Every (λ a. getD (a .allotment) j 0 ≤ sharesOf (a .visibility) (interest 0 n)) rows
+    → lossAt rows j .nonDisplayed ≡ givenAt rows j
+hidden-loss n j [] s = refl
+hidden-loss n j (a ∷ rows) s = go (a .visibility) (s .0) (hidden-loss n j rows (s .1))
+  where
+    g : ℕ
+    g = getD (a .allotment) j 0
+
+    go : (v : Visibility) → g ≤ sharesOf v (interest 0 n) → lossAt rows j .nonDisplayed ≡ givenAt rows j
+        → onlyOf v g .nonDisplayed + lossAt rows j .nonDisplayed ≡ g + givenAt rows j
+    go shown l r = omega arith
+    go hidden l r = ap (λ m. g + m) r
+
+-- so that a number for each order says what it loses
+loss-is : (o : Order) (j : ℕ) (rows : List Allocation) → Seen o j rows → settled (lossAt rows j) o ≡ settled (interest (givenAt rows j) (givenAt rows j)) o
+unfolding settled withInterest
+loss-is o j rows s = go (o .kind) refl s
+  where
+    n : ℕ
+    n = givenAt rows j
+
+    go : (k : Kind) → o .kind ≡ k → Every (λ a. getD (a .allotment) j 0 ≤ sharesOf (a .visibility) (interestBy k (sizeOf o))) rows
+        → settled (lossAt rows j) o ≡ settled (interest n n) o
+    go Displayed e w = rw (e, shown-loss (sizeOf o) j rows w)
+    go NonDisplayed e w = rw (e, hidden-loss (sizeOf o) j rows w)
+    go (MinimumQuantity m) e w = rw (e, hidden-loss (sizeOf o) j rows w)
+
+-- what holds of each part and its number holds at a place
+each-at : {P : Part → ℕ → Type 0} {ps : List Part} {ns : List ℕ} → Each P ps ns → (j : ℕ) (p : Part) → j < length ps → P (getD ps j p) (getD ns j 0)
+each-at Each.none j p h = absurd (omega arith)
+each-at (Each.more x e) zero p h = x
+each-at (Each.more x e) (suc j) p h = each-at e j p (omega arith)
+
+module _ (lot : ℕ) (hasLot : 0 < lot) (alg : Algorithm) (t : Taker) (os : List Order) (s : OrdersSound os) where
+  aligned-along : (cs : List Cell) (left : ℕ) → Aligned os (along lot alg t os cs left)
+  unfolding along
+  aligned-along [] left = tt
+  aligned-along (c ∷ cs) left =
+      (rw (allotted lot alg t os (c .0) (c .1) left, length-map, length-map), aligned-along cs (left - used (allocationAt lot alg t os (c .0) (c .1) left)))
+
+  seen-along : (j : ℕ) (z : Order) → j < length os → (cs : List Cell) (left : ℕ) → Seen (getD os j z) j (along lot alg t os cs left)
+  unfolding along allocationAt
+  seen-along j z h [] left = tt
+  seen-along j z h (c ∷ cs) left =
+      let g = groupOf lot alg (c .1) in
+      let part = partOf t (c .0) g in
+      let o = getD os j z in
+      let e = each-at (allotment-filled lot hasLot t os (s .rise) (s .setters) (c .0) left alg (c .1) .fits) j (part z) (omega (arith, length-map os part)) in (
+        omega (arith, ap (λ (p : Part). p .size) (List·getD-map part os j z), part-size t (c .0) g o, pick-least (stands t (c .0) g o) (sharesOf (g .visibility) (interestOf o))),
+        seen-along j z h cs (left - used (allocationAt lot alg t os (c .0) (c .1) left)),
+      )
+
+  -- the orders lose what the allocations give them
+  pub losses-are : (cs : List Cell) (left : ℕ) (gots : List ℕ) → length os ≤ length gots
+      → ((j : ℕ) → j < length os → givenAt (along lot alg t os cs left) j ≡ getD gots j 0)
+      → zipWith settled (lossesOf os (along lot alg t os cs left)) os ≡ zipWith settled (lossesIn (length os) gots gots) os
+  losses-are cs left gots l e =
+      let rows = along lot alg t os cs left in
+      let a = aligned-along cs left in
+      let front = take (length os) gots in
+      let n = length-take-le (length os) gots l in
+      settled-alike (lossesOf os rows) (lossesIn (length os) gots gots) os (losses-long os rows a) (length-zip interest front front refl ∙ n)
+      (λ j z h.
+      let o = getD os j z in
+      ap (λ x. settled x o) (losses-at os rows a j h)
+      ∙ loss-is o j rows (seen-along j z h cs left)
+      ∙ ap (λ x. settled x o)
+      (sym (get-zip interest front front j 0 0 noInterest (omega (arith, n)) (omega (arith, n))
+      ∙ ap₂ interest (getD-take (length os) gots j 0 h ∙ sym (e j h)) (getD-take (length os) gots j 0 h ∙ sym (e j h)))))

@@ -1,121 +1,95 @@
--- An incoming order passes one paragraph at a price level: the allotment can be credited, and what is credited is the definition's.
-use Prim.Native.Nat.{ℕ, _≤_, _<_}
-use mathlib.Core.Path.{_≡_, refl, sym, ap, ap₂, _∙_}
-use mathlib.Core.Bool.{Bool, true, false, _&&_}
-use mathlib.Core.List.{List, map, append-nil}
+-- An incoming order on its way through the keys: what holds before a group, and one step.
+use Prim.Native.Nat.{ℕ, zero, suc, _+_, _-_, _≤_, _<_}
+use mathlib.Core.Path.{_≡_, refl, ap, _∙_}
+use mathlib.Core.List.{List, [], _∷_, _++_, map, append-assoc, map-append}
 use native.Mathlib.Omega.{arith}
-use native.Mathlib.Decide.{ℕ-discrete}
-use lib.ListN.{length, getD, length-map}
-use lib.Dec.{ltb}
-use borrow.Author.Tests.{ltb-false, ne-eqb}
-use Rattle.units.specs.declared.Shares.{Shares}
+use native.Mathlib.Nat.{sub-zero}
+use native.Mathlib.Decide.{decLt}
+use lib.ListN.{length, length-append}
 use Rattle.units.specs.Lists.{sum, total}
-use Rattle.units.proofs.Tests.{false-and}
-use Rattle.units.proofs.Totals.{total-map}
-use Rattle.sharing.specs.Rank.{partSize}
-use Rattle.turns.specs.Members.{countOf, countsOf, sharesAt}
-use Rattle.turns.proofs.Arrays.{at-map, front-at}
+use Rattle.units.proofs.Totals.{total-append, total-map}
+use Rattle.units.proofs.Members.{Every, every-append, every-split, every-weaken}
 use Rattle.orders.specs.declared.order.Order.{Order}
-use Rattle.orders.specs.Order.{Visibility}
-use Rattle.book.specs.Sound.{ordersOf, orderAt}
-use Rattle.book.proofs.Soundness.{OrdersSound, orders-sound}
-use Rattle.book.proofs.Checking.{sound-fits}
-use Rattle.book.proofs.Access.{order-get, order-member}
-use Rattle.matching.specs.declared.Paragraph.{Paragraph}
-use Rattle.matching.specs.Paragraph.{paragraphNumber, groupOf, inGroup, partOf}
-use Rattle.matching.specs.Take.{Allocation, used, allocationAt, executionsBy, executionsOf}
-use Rattle.matching.proofs.Entries.{Aligned}
-use Rattle.matching.proofs.Parts.{part-out, part-none, allotShare, allotted}
-use Rattle.matching.proofs.Allotting.{used-within}
-use Rattle.standing.specs.declared.Level.{Level}
-use Rattle.standing.specs.Standing.{isShown, groupAt, partsMet}
-use Rattle.groups.specs.Meeting.{Meets}
-use Rattle.paragraphs.proofs.Allotting.{sizes-allotted}
-use Rattle.ledger.specs.Progress.{State, Ledger, stateOf, credit, Bounded}
-use Rattle.allocation.specs.Walk.{after, rowAt, Roomy}
-use Rattle.ledger.specs.Credits.{Credits}
-use Rattle.allocation.proofs.After.{after-one}
+use Rattle.orders.specs.declared.order.Taker.{Taker}
+use Rattle.book.proofs.Soundness.{OrdersSound}
+use Rattle.matching.specs.declared.Algorithm.{Algorithm}
+use Rattle.parts.specs.Key.{groupIn, sharesIn}
+use Rattle.allocation.specs.Walk.{Walks, sharedBy}
+use Rattle.allocation.specs.Ready.{Ascending, Ready}
+use Rattle.allocation.proofs.Cells.{Beside}
+use Rattle.allocation.proofs.Stretches.{stretch-whole}
+use Rattle.allocation.proofs.Enough.{ready-split}
 
-module _ {l : Level} {s ranks : List ℕ} (m : Meets l s ranks) (g : Paragraph) (left : ℕ) where
-  abbrev os : List Order
-  os = ordersOf s
+-- keys that ascend: those of the first one's group, and the others behind them
+record Split (k : ℕ) (keys : List ℕ) : Type 0 where
+  same : List ℕ
+  rest : List ℕ
+  are : keys ≡ same ++ rest
+  together : Every (λ q. groupIn q ≡ groupIn k) same
+  behind : Every (λ q. groupIn k < groupIn q) rest
 
-  abbrev row : Allocation
-  row = allocationAt (l .lot .0) (l .algorithm) (l .taker) os (l .price .0) g left
+split : (k : ℕ) (keys : List ℕ) → Every (λ q. k < q) keys → Ascending keys → Split k keys
+split k [] h a = record { same = []; rest = []; are = refl; together = tt; behind = tt }
+split k (q ∷ keys) h a = go (decLt (groupIn k) (groupIn q)) (split k keys (h .1) (a .1))
+  where
+    go : Dec (groupIn k < groupIn q) → Split k keys → Split k (q ∷ keys)
+    go (yes l) r = record { same = []; rest = q ∷ keys; are = refl; together = tt; behind = (l, every-weaken (λ x y. omega arith) keys (a .0)) }
+    go (no l) r =
+        let f = h .0 in
+        record {
+          same = q ∷ r .same;
+          rest = r .rest;
+          are = ap (λ xs. q ∷ xs) (r .are);
+          together = (omega arith, r .together);
+          behind = r .behind;
+        }
 
-  orders : OrdersSound os
-  orders = orders-sound s (m .isSound)
+module _ (lot : ℕ) (hasLot : 0 < lot) (alg : Algorithm) (t : Taker) (at : ℕ → Order) (os : List Order) (s : OrdersSound os) (few : length os ≤ 256)
+    (b : Beside at 0 os) where
+  abbrev Rest : List ℕ → Type 0
+  Rest = Ready at (length os) lot alg (t .side)
 
-  -- the allotment has a number for each order
-  pub row-aligned : Aligned os (rowAt l os g left)
-  row-aligned = (rw (allotted (l .lot .0) (l .algorithm) (l .taker) os (l .price .0) g left, length-map, length-map), tt)
+  abbrev Goes : List ℕ → ℕ → List ℕ → Type 0
+  Goes = Walks at lot alg
 
-  -- it uses up no more than the shares left
-  row-within : used row ≤ left
-  row-within = used-within (l .lot .0) (m .hasLot) (l .algorithm) (l .taker) os (orders .rise) (orders .setters) (l .price .0) g left
+  -- whole groups that fit into the shares left are filled: of so many keys at most
+  abbrev Fills : ℕ → Type 0
+  Fills most = (keys later gets : List ℕ) → length keys ≤ most → Rest keys → Every (λ k. Every (λ q. groupIn k < groupIn q) later) keys
+      → (left : ℕ) → total sharesIn keys ≤ left → Goes later (left - total sharesIn keys) gets → Goes (keys ++ later) left (map sharesIn keys ++ gets)
 
-  -- where no shares are left, or the group has none that can be met, it uses up nothing
-  pub row-unused : left ≤ l .reach .0 → (size : ℕ) → size ≡ total partSize (partsMet l g os) → (ltb 0 size && ltb 0 left) ≡ false
-      → total used (rowAt l os g left) ≡ 0
-  row-unused h size q f = go (ltb 0 size) refl f
+  fill-more : (most : ℕ) → Fills most → Fills (suc most)
+  fill-more most again [] later gets f r p left h w = rw (sub-zero left) at w
+  fill-more most again (k ∷ keys) later gets f r p left h w = go (split k keys (r .ascend .0) (r .ascend .1))
     where
-      go : (b : Bool) → ltb 0 size ≡ b → (b && ltb 0 left) ≡ false → total used (rowAt l os g left) ≡ 0
-      go true e k = omega (arith, row-within, ltb-false 0 left k)
-      go false e k =
-          let ps = partsMet l g os in
-          let z = ltb-false 0 size e in
-          let a : map partSize ps ≡ row .allotment = sizes-allotted m g left h refl (omega arith) in
-          omega (arith, ap sum a, total-map (λ n. n) partSize ps)
+      go : Split k keys → Goes (k ∷ (keys ++ later)) left (map sharesIn (k ∷ keys) ++ gets)
+      go x =
+          let a = x .are in
+          let c = ready-split (k ∷ x .same) (x .rest) (rw a at r) in
+          let n : total sharesIn (k ∷ keys) ≡ total sharesIn (k ∷ x .same) + total sharesIn (x .rest) = rw a (total-append sharesIn (k ∷ x .same) (x .rest)) in
+          let l : length (x .rest) ≤ most = omega (arith, ap length a, length-append (x .same) (x .rest)) in
+          let p′ = every-split (λ y. Every (λ q. groupIn y < groupIn q) later) (x .same) (x .rest) (rw a at (p .1)) in
+          let whole = stretch-whole lot alg t at os s few b k (x .same) (c .0) (x .together) hasLot left (omega arith) in
+          let rest = left - total sharesIn (k ∷ x .same) in
+          let e : left - total sharesIn (k ∷ keys) ≡ rest - total sharesIn (x .rest) = omega arith in
+          let m : sum (sharedBy at lot alg (groupIn k) (k ∷ x .same) left) ≡ total sharesIn (k ∷ x .same) =
+          ap sum whole ∙ total-map (λ y. y) sharesIn (k ∷ x .same) in
+          let v = again (x .rest) later gets l (c .1) (p′ .1) rest (omega arith) (rw e at w) in
+          let next : Goes (k ∷ (x .same ++ (x .rest ++ later))) left (sharedBy at lot alg (groupIn k) (k ∷ x .same) left ++ (map sharesIn (x .rest) ++ gets)) =
+          Walks.next left k (x .same) (x .rest ++ later) (map sharesIn (x .rest) ++ gets) (x .together)
+          (every-append (λ q. groupIn k < groupIn q) (x .rest) later (x .behind) (p .0)) (rw m v) in
+          rw (
+            a,
+            map-append sharesIn (x .same) (x .rest),
+            append-assoc (x .same) (x .rest) later,
+            append-assoc (map sharesIn (x .same)) (map sharesIn (x .rest)) gets,
+          )
+          (rw whole at next)
 
-  -- an order of another rank gets nothing
-  row-outside : (i : ℕ) → i < length os → (getD ranks i 0 ≡ l .rank → ⊥) → getD (row .allotment) i 0 ≡ 0
-  row-outside i h d =
-      let o = orderAt s i in
-      let part = partOf (l .taker) (l .price .0) (groupAt l g) in
-      let share = allotShare (l .lot .0) (l .algorithm) g left (map part os) in
-      let apart = sym (m .stands i (omega (arith, m .beside))) ∙ ne-eqb (getD ranks i 0) (l .rank) d in
-      let none = part-out (l .taker) (l .price .0) (groupAt l g) o (false-and (inGroup (groupAt l g) o) apart) in
-      ap (λ ns. getD ns i 0) (allotted (l .lot .0) (l .algorithm) (l .taker) os (l .price .0) g left)
-      ∙ at-map share (map part os) i (part o) 0 (omega (arith, length-map os part))
-      ∙ ap share (at-map part os i o (part o) h ∙ ap part (order-get s i o h))
-      ∙ part-none (l .lot .0) (l .algorithm) (l .taker) os (orders .rise) (l .price .0) g left o (order-member s i h) (ap partSize none)
+  fill-by : (most : ℕ) → Fills most
+  fill-by zero [] later gets f r p left h w = rw (sub-zero left) at w
+  fill-by zero (k ∷ keys) later gets f r p left h w = absurd (omega arith)
+  fill-by (suc most) keys later gets f r p left h w = fill-more most (fill-by most) keys later gets f r p left h w
 
-  -- The allotment, as an array.
-  module _ (xs : List Shares) (e : countsOf (length ranks) xs ≡ row .allotment) where
-    counts : countsOf (length os) xs ≡ row .allotment
-    counts = ap (λ n. countsOf n xs) (sym (m .beside)) ∙ e
-
-    share-at : (i : ℕ) → i < length os → sharesAt xs i ≡ getD (row .allotment) i 0
-    share-at i h = sym (front-at countOf (length os) xs i (record { 0 = 0 }) h) ∙ ap (λ ns. getD ns i 0) counts
-
-    inside : (i : ℕ) → i < length os → 0 < sharesAt xs i → (l .from ≤ i) × (i < l .to)
-    inside i h k = go (ℕ-discrete (getD ranks i 0) (l .rank))
-      where
-        go : Dec (getD ranks i 0 ≡ l .rank) → (l .from ≤ i) × (i < l .to)
-        go (yes q) = m .inside i (omega (arith, m .beside)) q
-        go (no d) = absurd (omega (arith, share-at i h, row-outside i h d))
-
-    module _ {number : ℕ} (q : number ≡ paragraphNumber g) (p : Ledger) where
-      -- it can be credited
-      pub row-credits : left ≤ p .incoming .size .0 → Bounded p → Roomy os p (rowAt l os g left) → Credits s p l number xs
-      unfolding executionsOf allocationAt
-      row-credits h b r =
-          let f = sound-fits s (m .isSound) in
-          let made = executionsBy (paragraphNumber g) (l .price .0) os (row .allotment) in
-          record {
-            allots = record { most = f .1; bytes = f .0; ends = omega (arith, m .ends, m .beside); inside = inside };
-            fits = omega (arith, ap sum counts, row-within);
-            bounded = b;
-            room = rw (q, counts) (omega (arith, ap length (append-nil made)));
-          }
-
-      -- and once it is credited the order has come as far as the definition says
-      pub row-credited : {is-shown : Bool} → ((lot : ℕ) → is-shown ≡ isShown (groupOf lot (l .algorithm) g .visibility)) → {t : State}
-          → ((v : Visibility) → is-shown ≡ isShown v → t ≡ credit os number (l .price .0) v (countsOf (length os) xs) (stateOf (length os) p))
-          → t ≡ after os (stateOf (length os) p) (rowAt l os g left)
-      unfolding allocationAt
-      row-credited w c =
-          let v = groupAt l g .visibility in
-          c v (w (l .lot .0))
-          ∙ ap₂ (λ n ns. credit os n (l .price .0) v ns (stateOf (length os) p)) q counts
-          ∙ sym (after-one os (stateOf (length os) p) row (row-aligned .0))
+  pub fill-walks : (keys later gets : List ℕ) → Rest keys → Every (λ k. Every (λ q. groupIn k < groupIn q) later) keys → (left : ℕ)
+      → total sharesIn keys ≤ left → Goes later (left - total sharesIn keys) gets → Goes (keys ++ later) left (map sharesIn keys ++ gets)
+  fill-walks keys later gets r p left h w = fill-by (length keys) keys later gets (omega arith) r p left h w

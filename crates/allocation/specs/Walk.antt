@@ -1,35 +1,65 @@
--- The rows of allocations that an incoming order makes on its way, and how far they bring it.
-use Prim.Native.Nat.{ℕ, _+_, _-_, _≤_}
+-- The way of an incoming order through the parts of a book in their order: what each part gets.
+use Prim.Native.Nat.{ℕ, _-_, _<_}
+use mathlib.Core.Path.{_≡_}
 use mathlib.Core.List.{List, [], _∷_, _++_, map}
-use lib.ListN.{length}
-use Rattle.units.specs.Lists.{total, zipWith}
+use lib.Dec.{ltb, eqb}
+use lib.ListN.{getD}
+use Rattle.units.specs.Lists.{consIf, orZero, sum, zipWith}
+use Rattle.units.proofs.Members.{Every}
+use Rattle.sharing.specs.Rank.{Part}
+use Rattle.sharing.specs.Method.{allotBy}
 use Rattle.orders.specs.declared.order.Order.{Order}
-use Rattle.orders.specs.Order.{noInterest, together}
+use Rattle.orders.specs.Order.{minimumOf}
+use Rattle.record.specs.declared.execution.Execution.{Execution}
+use Rattle.matching.specs.declared.Algorithm.{Algorithm}
 use Rattle.matching.specs.declared.Paragraph.{Paragraph}
-use Rattle.matching.specs.Take.{Allocation, used, allocationAt, allocationsAt, executionsOf, lossesOf}
-use Rattle.standing.specs.declared.Level.{Level}
-use Rattle.ledger.specs.Progress.{State, Ledger, inBytes}
+use Rattle.matching.specs.declared.Paragraph.the-variants.{Six}
+use Rattle.matching.specs.Paragraph.{paragraphs, paragraphNumber, methodOf}
+use Rattle.parts.specs.Key.{groupIn, paragraphIn, placeIn, sharesIn, withShares}
 
--- nothing executed yet
-abbrev pub begun : List Order → ℕ → State
-begun os left = record { logged = []; losses = map (λ o. noInterest) os; left = left }
+-- the paragraph of a group
+abbrev pub paragraphOf : ℕ → Paragraph
+paragraphOf group = getD paragraphs (paragraphIn group) Six
 
--- further by several allocations
-unfoldable pub after : List Order → State → List Allocation → State
-after os s rows = record {
-  logged = s .logged ++ inBytes (executionsOf os rows);
-  losses = zipWith together (s .losses) (lossesOf os rows);
-  left = s .left - total used rows;
-}
+-- The orders of a book by the places of their records.
+module _ (at : ℕ → Order) where
+  -- a part as it stands in its group
+  abbrev pub partIn : ℕ → Part
+  partIn key =
+      let o = at (placeIn key) in
+      record { number = o .number; size = sharesIn key; minimum = minimumOf (o .kind); setter = o .setter }
 
--- one paragraph at the level
-abbrev pub rowAt : Level → List Order → Paragraph → ℕ → List Allocation
-rowAt l os g left = allocationAt (l .lot .0) (l .algorithm) (l .taker) os (l .price .0) g left ∷ []
+  -- the execution of a part with the shares that it got
+  abbrev pub executionOf : ℕ → Execution
+  executionOf fill =
+      let o = at (placeIn fill) in
+      record {
+        number = o .number;
+        price = o .price;
+        shares = record { 0 = sharesIn fill };
+        paragraph = paragraphNumber (paragraphOf (groupIn fill));
+      }
 
--- several paragraphs in turn
-abbrev pub rowsAt : Level → List Order → List Paragraph → ℕ → List Allocation
-rowsAt l os gs left = allocationsAt (l .lot .0) (l .algorithm) (l .taker) os (l .price .0) gs left
+  module _ (lot : ℕ) (alg : Algorithm) where
+    -- what the parts of a group get of the shares left
+    unfoldable pub sharedBy : ℕ → List ℕ → ℕ → List ℕ
+    sharedBy group keys left = allotBy (methodOf alg (paragraphOf group)) lot left (map partIn keys)
 
--- the log has room for the executions of the rows
-abbrev pub Roomy : List Order → Ledger → List Allocation → Type 0
-Roomy os p rows = p .count + length (executionsOf os rows) ≤ 256
+    -- What each of the keys gets of the shares left, group by group: a group's parts stand together, before those of later groups. Where no
+    -- shares are left nobody gets any.
+    pub data Walks : List ℕ → ℕ → List ℕ → Type 0 where
+      none : (left : ℕ) → Walks [] left []
+      ended : (keys : List ℕ) → Walks keys 0 (map (λ k. 0) keys)
+      next : (left key : ℕ) (keys later gets : List ℕ) → Every (λ k. groupIn k ≡ groupIn key) keys → Every (λ k. groupIn key < groupIn k) later
+          → Walks later (left - sum (sharedBy (groupIn key) (key ∷ keys) left)) gets
+          → Walks (key ∷ (keys ++ later)) left (sharedBy (groupIn key) (key ∷ keys) left ++ gets)
+
+-- those that got shares, each with them
+abbrev pub fillsOf : List ℕ → List ℕ → List ℕ
+fillsOf [] gets = []
+fillsOf (k ∷ keys) [] = []
+fillsOf (k ∷ keys) (n ∷ gets) = consIf (ltb 0 n) (withShares n k) (fillsOf keys gets)
+
+-- what the parts of the record at a place got
+abbrev pub gotAt : ℕ → List ℕ → List ℕ → ℕ
+gotAt place keys gets = sum (zipWith (λ k n. orZero (eqb (placeIn k) place) n) keys gets)

@@ -1,13 +1,14 @@
 -- Walking over a book: its records and orders from a byte on, and one turn of each loop over them.
 use Prim.Native.Nat.{ℕ, suc, _+_, _-_, _≤_, _<_}
 use mathlib.Core.Path.{_≡_, sym, ap, _∙_}
-use mathlib.Core.Bool.{Bool, true, false, _&&_, _||_, and-true, or-false, and-assoc, or-assoc}
+use mathlib.Core.Bool.{Bool, _&&_, _||_, and-true, or-false, and-assoc, or-assoc}
 use mathlib.Core.List.{List, [], _∷_, map}
 use native.Mathlib.Omega.{arith}
 use native.Mathlib.Nat.{add-zero}
 use lib.ListN.{length, getD, take, drop}
 use lib.Seq.{drop-drop, getD-take, getD-drop}
-use borrow.Author.Tests.{lt-ltb, le-ltb, eq-eqb, ne-eqb}
+use lib.Dec.{ltb}
+use borrow.Author.Tests.{eq-eqb, ne-eqb}
 use Rattle.units.specs.Lists.{all, any, isZero}
 use Rattle.orders.specs.declared.order.Order.{Order}
 use Rattle.record.specs.Record.{decodeOrder}
@@ -41,15 +42,11 @@ module _ (s : List ℕ) (at n : ℕ) where
     pub count-stop : getD s at 0 ≡ 0 → length (occupied (firstRecords form n (drop at s))) ≡ 0
     count-stop e = ap (λ rs. length (occupied rs)) records-more ∙ rw (unused-at, eq-eqb (getD s at 0) 0 e)
 
-    -- A test of every record, that ends at the first that fails it.
-    module _ (p : List ℕ → Bool) where
-      -- a record that passes leaves the answer to those behind it
-      pub all-more : p (take 32 (drop at s)) ≡ true → all p (firstRecords form n (drop at s)) ≡ all p (firstRecords form (n - 1) (drop (at + 32) s))
-      all-more e = ap (all p) records-more ∙ rw e
-
-      -- one that fails is the answer
-      pub all-stop : p (take 32 (drop at s)) ≡ false → all p (firstRecords form n (drop at s)) ≡ false
-      all-stop e = ap (all p) records-more ∙ rw e
+    -- a test of every record, gathered: whether those so far passed, and this one, and those behind it
+    pub all-more : (p : List ℕ → Bool) (x : Bool)
+        → ((x && p (take 32 (drop at s))) && all p (firstRecords form (n - 1) (drop (at + 32) s))) ≡ (x && all p (firstRecords form n (drop at s)))
+    all-more p x =
+        and-assoc x (p (take 32 (drop at s))) (all p (firstRecords form (n - 1) (drop (at + 32) s))) ∙ ap (λ rs. x && all p rs) (sym records-more)
 
     -- The first order, as it is read.
     module _ (o : Order) (q : o ≡ decodeOrder form (take 32 (drop at s))) where
@@ -57,14 +54,12 @@ module _ (s : List ℕ) (at n : ℕ) where
       pub orders-read : firstOrders n (drop at s) ≡ o ∷ firstOrders (n - 1) (drop (at + 32) s)
       orders-read = orders-more ∙ ap (λ x. x ∷ firstOrders (n - 1) (drop (at + 32) s)) (sym q)
 
-      -- a number above the last is what the next must be above
-      pub rising-more : (last : ℕ) → last < o .number
-          → rising last (firstOrders n (drop at s)) ≡ rising (o .number) (firstOrders (n - 1) (drop (at + 32) s))
-      rising-more last e = ap (rising last) orders-read ∙ rw (lt-ltb last (o .number) e)
-
-      -- one that is not ends the rise
-      pub rising-stop : (last : ℕ) → o .number ≤ last → rising last (firstOrders n (drop at s)) ≡ false
-      rising-stop last e = ap (rising last) orders-read ∙ rw (le-ltb last (o .number) e)
+      -- the numbers so far rise, this one is above the last, and those behind it rise above it
+      pub rising-more : (last : ℕ) (x : Bool)
+          → ((x && ltb last (o .number)) && rising (o .number) (firstOrders (n - 1) (drop (at + 32) s))) ≡ (x && rising last (firstOrders n (drop at s)))
+      rising-more last x =
+          and-assoc x (ltb last (o .number)) (rising (o .number) (firstOrders (n - 1) (drop (at + 32) s)))
+          ∙ ap (λ os. x && rising last os) (sym orders-read)
 
       -- an order of another number stands before the one that is looked for
       pub place-more : (number : ℕ) → (o .number ≡ number → ⊥)
@@ -103,13 +98,13 @@ module _ (s : List ℕ) (at n : ℕ) where
     pub count-done : length (occupied (firstRecords form n (drop at s))) ≡ 0
     count-done = ap (λ rs. length (occupied rs)) records-done
 
-    -- none failed the test
-    pub all-done : (p : List ℕ → Bool) → all p (firstRecords form n (drop at s)) ≡ true
-    all-done p = ap (all p) records-done
+    -- whether those so far passed the test is the answer
+    pub all-done : (p : List ℕ → Bool) (x : Bool) → (x && all p (firstRecords form n (drop at s))) ≡ x
+    all-done p x = ap (λ rs. x && all p rs) records-done ∙ and-true x
 
-    -- the numbers have risen
-    pub rising-done : (last : ℕ) → rising last (firstOrders n (drop at s)) ≡ true
-    rising-done last = ap (rising last) orders-done
+    -- whether the numbers so far rise is the answer
+    pub rising-done : (last : ℕ) (x : Bool) → (x && rising last (firstOrders n (drop at s))) ≡ x
+    rising-done last x = ap (λ os. x && rising last os) orders-done ∙ and-true x
 
     -- none stands before the one that is looked for
     pub place-done : (number : ℕ) → placeOf number (firstOrders n (drop at s)) ≡ 0

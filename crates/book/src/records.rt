@@ -2,10 +2,12 @@
 use orders::order::Order;
 use record::bytes;
 use record::order_record;
+use record::order_record::Numbers;
 ghost use mathlib.Core.Path.{_≡_};
 ghost use Prim.Native.Nat.{_+_, _≤_};
 ghost use lib.ListN.{length, take, drop};
-ghost use Rattle.record.specs.Codec.{replaced};
+ghost use Rattle.record.specs.Codec.{decode, replaced};
+ghost use Rattle.record.specs.Names.{namedNumbers};
 ghost use Rattle.record.specs.Record.{encodeOrder, decodeOrder};
 ghost use Rattle.book.specs.Sound.{form};
 ghost use Rattle.book.specs.Change.{withoutRecord};
@@ -19,6 +21,14 @@ pub fn order_at(book: &[u8], at: usize) -> Order
     ensures { λ r. ⌜ r ≡ decodeOrder form (take 32 (drop at (now (book .entry)))) ⌝ }
 {
     order_record::read(&book[at..at + RECORD_BYTES])
+}
+
+// The numbers of the record that begins at a byte.
+pub fn numbers_at(book: &[u8], at: usize) -> Numbers
+    requires { ⌜ at + 32 ≤ length (now book) ⌝ }
+    ensures { λ r. ⌜ r ≡ namedNumbers (decode form (take 32 (drop at (now (book .entry))))) ⌝ }
+{
+    order_record::numbers_of(&book[at..at + RECORD_BYTES])
 }
 
 // The order's record goes where the record from the byte on was.

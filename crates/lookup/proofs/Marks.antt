@@ -40,7 +40,7 @@ any-last p [] k = or-false (p k)
 any-last p (x ∷ ks) k = ap (λ b. p x || b) (any-last p ks k) ∙ sym (or-assoc (p x) (any p ks) (p k))
 
 -- an order that is not marked has no mark in common with others
-apart : (o : Order) (os : List Order) → o .setter ≡ false → any (sameSetter o) os ≡ false
+pub apart : (o : Order) (os : List Order) → o .setter ≡ false → any (sameSetter o) os ≡ false
 apart o [] e = refl
 apart o (p ∷ os) e =
     let f : sameSetter o p ≡ false = rw e in

@@ -8,7 +8,7 @@ ghost use lib.Dec.{eqb};
 ghost use lib.ListN.{length};
 ghost use Rattle.units.specs.Lists.{any};
 ghost use Rattle.book.specs.Sound.{settersSound, firstOrders};
-ghost use Rattle.lookup.specs.Setters.{setterKey};
+ghost use Rattle.lookup.specs.Setters.{setterKey, markedIn};
 
 // One number for an order's side and price.
 fn key_of(order: Order) -> u64
@@ -36,8 +36,26 @@ fn no_keys() -> [u64; 256] {
     [0; 256]
 }
 
-// Whether no two of the first n orders are marked at one side and price.
-pub(crate) fn are_apart(book: &[u8], n: usize) -> bool
+// How many of the first n orders are marked.
+fn count_marked(book: &[u8], n: usize) -> usize
+    requires { ⌜ 32 * n ≤ length (now book) ⌝ }
+    ensures { λ r. ⌜ r ≡ markedIn (firstOrders n (now (book .entry))) ⌝ }
+{
+    let mut count = 0;
+    let mut at = 0;
+    let mut left = n;
+    while 0 < left {
+        if records::order_at(book, at).setter {
+            count += 1;
+        }
+        at += RECORD_BYTES;
+        left -= 1;
+    }
+    count
+}
+
+// Whether no two of the first n orders are marked at one side and price, by the key of each marked order and those of the ones before it.
+fn are_apart_by_key(book: &[u8], n: usize) -> bool
     requires { ⌜ (32 * n ≤ length (now book)) × (n ≤ 256) ⌝ }
     ensures { λ r. ⌜ r ≡ settersSound (firstOrders n (now (book .entry))) ⌝ }
 {
@@ -59,4 +77,16 @@ pub(crate) fn are_apart(book: &[u8], n: usize) -> bool
         left -= 1;
     }
     true
+}
+
+// The same, without a comparison where fewer than two are marked.
+pub(crate) fn are_apart(book: &[u8], n: usize) -> bool
+    requires { ⌜ (32 * n ≤ length (now book)) × (n ≤ 256) ⌝ }
+    ensures { λ r. ⌜ r ≡ settersSound (firstOrders n (now (book .entry))) ⌝ }
+{
+    if count_marked(book, n) < 2 {
+        true
+    } else {
+        are_apart_by_key(book, n)
+    }
 }

@@ -46,16 +46,15 @@ fn records_sound(book: &[u8], n: usize) -> bool
     requires { ⌜ 32 * n ≤ length (now book) ⌝ }
     ensures { λ r. ⌜ r ≡ all (recordSound form) (firstRecords form n (now (book .entry))) ⌝ }
 {
+    let mut sound = true;
     let mut at = 0;
     let mut left = n;
     while 0 < left {
-        if !order_record::is_sound(&book[at..at + RECORD_BYTES]) {
-            return false;
-        }
+        sound = sound & order_record::is_sound(&book[at..at + RECORD_BYTES]);
         at += RECORD_BYTES;
         left -= 1;
     }
-    true
+    sound
 }
 
 // Whether the numbers of the first n orders rise strictly.
@@ -63,19 +62,18 @@ fn numbers_rise(book: &[u8], n: usize) -> bool
     requires { ⌜ 32 * n ≤ length (now book) ⌝ }
     ensures { λ r. ⌜ r ≡ rising 0 (firstOrders n (now (book .entry))) ⌝ }
 {
+    let mut rising = true;
     let mut at = 0;
     let mut left = n;
     let mut last = 0;
     while 0 < left {
         let number = records::order_at(book, at).number;
-        if number <= last {
-            return false;
-        }
+        rising = rising & (last < number);
         last = number;
         at += RECORD_BYTES;
         left -= 1;
     }
-    true
+    rising
 }
 
 // Whether the first n records are those of sound orders and every byte behind them is zero.

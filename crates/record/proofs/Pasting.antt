@@ -4,8 +4,8 @@ use mathlib.Core.Path.{_≡_, sym, ap, ap₂, _∙_}
 use mathlib.Core.List.{List, _++_, append-assoc}
 use native.Mathlib.Omega.{arith}
 use native.Mathlib.Numerals.{add-one}
-use lib.ListN.{length, getD, take, drop, set, length-append, length-drop}
-use lib.Seq.{paste, paste-suc, length-paste, drop-paste, take-length, take-append-seam, length-take-le, getD-drop}
+use lib.ListN.{length, getD, take, drop, set, length-append, length-drop, take-append-drop}
+use lib.Seq.{paste, paste-suc, length-paste, drop-paste, take-length, take-append-seam, length-take-le, drop-drop, getD-drop}
 use Rattle.record.specs.Codec.{replaced}
 
 module _ (d s : List ℕ) (at : ℕ) (h : at + length s ≤ length d) (x : List ℕ) (i : ℕ) (e : x ≡ paste d at s i) where
@@ -79,3 +79,9 @@ module _ (at : ℕ) (new b : List ℕ) (h : at + length new ≤ length b) where
         length-take-le at b (omega arith),
         length-drop (at + length new) b,
       )
+
+-- bytes put in their own place leave the buffer as it was
+pub replaced-same : (at n : ℕ) (b : List ℕ) → at + n ≤ length b → replaced at (take n (drop at b)) b ≡ b
+replaced-same at n b h =
+    let l : length (take n (drop at b)) ≡ n = length-take-le n (drop at b) (omega (arith, length-drop at b)) in
+    rw (l, ← drop-drop n at b, take-append-drop n (drop at b)) (take-append-drop at b)

@@ -1,11 +1,11 @@
 -- Numbers read from their own bytes, and the numbers of a record each at its own place.
 use Prim.Native.Nat.{ℕ, zero, suc, _+_, _*_}
-use mathlib.Core.Path.{_≡_, refl, ap, _∙_}
+use mathlib.Core.Path.{_≡_, refl, sym, ap, _∙_}
 use mathlib.Core.Bool.{_&&_}
 use mathlib.Core.List.{List, [], _∷_}
 use native.Mathlib.Omega.{arith}
-use lib.ListN.{length, getD, take, drop}
-use lib.Seq.{drop-drop, take-add, take-nil}
+use lib.ListN.{length, getD, take, drop, length-drop}
+use lib.Seq.{drop-drop, take-add, take-all, take-nil}
 use borrow.Author.Tests.{ne-eqb}
 use Rattle.units.specs.Lists.{all, sum, isZero}
 use Rattle.units.proofs.Members.{all-append}
@@ -32,12 +32,12 @@ zero-more zero (suc b) = rw (ne-eqb (0 + 256 * suc b) 0 (λ e. omega arith), ne-
 zero-more (suc a) b = rw (ne-eqb (suc a + 256 * b) 0 (λ e. omega arith), ne-eqb (suc a) 0 (λ e. omega arith))
 
 -- a number is zero where its bytes are
-pub from-zero : (s : List ℕ) → isZero (fromBytes s) ≡ all isZero s
+from-zero : (s : List ℕ) → isZero (fromBytes s) ≡ all isZero s
 from-zero [] = refl
 from-zero (b ∷ s) = zero-more b (fromBytes s) ∙ ap (λ z. isZero b && z) (from-zero s)
 
 -- a row of numbers is zero where their bytes are
-pub split-zero : (ws s : List ℕ) → all isZero (split ws s) ≡ all isZero (take (sum ws) s)
+split-zero : (ws s : List ℕ) → all isZero (split ws s) ≡ all isZero (take (sum ws) s)
 split-zero [] s = refl
 split-zero (w ∷ ws) s =
     rw (take-add w (sum ws) s, all-append isZero (take w s) (take (sum ws) (drop w s)), from-zero (take w s), split-zero ws (drop w s))
@@ -48,9 +48,16 @@ numbersAt [] at s = []
 numbersAt (w ∷ ws) at s = fromBytes (take w (drop at s)) ∷ numbersAt ws (at + w) s
 
 -- what is split behind a place is read at its own places
-pub split-at : (ws : List ℕ) (at : ℕ) (s : List ℕ) → split ws (drop at s) ≡ numbersAt ws at s
+split-at : (ws : List ℕ) (at : ℕ) (s : List ℕ) → split ws (drop at s) ≡ numbersAt ws at s
 split-at [] at s = refl
 split-at (w ∷ ws) at s = ap (λ l. fromBytes (take w (drop at s)) ∷ l) (ap (split ws) (drop-drop w at s) ∙ split-at ws (at + w) s)
+
+-- numbers that reach to the end are zero where every byte from their place on is
+pub rest-zero : (ws : List ℕ) (at : ℕ) (s : List ℕ) → length s ≡ at + sum ws → all isZero (numbersAt ws at s) ≡ all isZero (drop at s)
+rest-zero ws at s h =
+    ap (all isZero) (sym (split-at ws at s))
+    ∙ split-zero ws (drop at s)
+    ∙ ap (all isZero) (take-all (sum ws) (drop at s) (omega (arith, length-drop at s)))
 
 -- the numbers of a record stand behind its mark
 pub decode-at : (f : Form) (s : List ℕ) → decode f s ≡ numbersAt (f .widths) (length (f .mark)) s

@@ -21,7 +21,7 @@ pub fn read_u32(s: &[u8], at: usize) -> u32
     let b = s[at + 1];
     let c = s[at + 2];
     let d = s[at + 3];
-    wide(a) + 256 * (wide(b) + 256 * (wide(c) + 256 * wide(d)))
+    wide(a) + 256 * wide(b) + 65_536 * wide(c) + 16_777_216 * wide(d)
 }
 
 // The four bytes of a number.

@@ -7,25 +7,25 @@ use orders::range;
 use units::Price;
 use units::Shares;
 ghost use mathlib.Core.Path.{_≡_};
-ghost use lib.ListN.{length};
-ghost use Rattle.units.specs.Lists.{orZero};
+ghost use lib.ListN.{length, drop};
+ghost use Rattle.units.specs.Lists.{all, orZero, isZero};
 ghost use Rattle.record.specs.Codec.{decode, hasMark};
 ghost use Rattle.record.specs.Record.{orderForm, encodeOrder, decodeOrder, recordSound};
 ghost use Rattle.record.specs.Names.{namedNumbers};
 
 // The numbers of a record that say its order.
-struct Numbers {
-    side: u32,
-    kind: u32,
-    number: u32,
-    price: u32,
-    size: u32,
-    minimum: u32,
-    setter: u32,
+pub struct Numbers {
+    pub side: u32,
+    pub kind: u32,
+    pub number: u32,
+    pub price: u32,
+    pub size: u32,
+    pub minimum: u32,
+    pub setter: u32,
 }
 
 // They are read each at its own place.
-fn numbers_of(rec: &[u8]) -> Numbers
+pub fn numbers_of(rec: &[u8]) -> Numbers
     requires { ⌜ length (now rec) ≡ 32 ⌝ }
     ensures { λ r. ⌜ r ≡ namedNumbers (decode orderForm (now (rec .entry))) ⌝ }
 {
@@ -67,6 +67,18 @@ fn has_mark(rec: &[u8]) -> bool
     (rec[0] == 0x4f) & (rec[1] == 0x42)
 }
 
+// Whether the bytes behind the setter mark, 21 to 31, are zero.
+fn is_clear_behind(rec: &[u8]) -> bool
+    requires { ⌜ length (now rec) ≡ 32 ⌝ }
+    ensures { λ r. ⌜ r ≡ all isZero (drop 21 (now (rec .entry))) ⌝ }
+{
+    (rec[21] == 0)
+        & (rec[22] == 0)
+        & (rec[23] == 0)
+        & (bytes::read_u32(rec, 24) == 0)
+        & (bytes::read_u32(rec, 28) == 0)
+}
+
 // Whether the record is sound: the mark, each number in its range, a setter mark on kind 1 alone, and zeros in bytes 21 to 31.
 pub fn is_sound(rec: &[u8]) -> bool
     requires { ⌜ length (now rec) ≡ 32 ⌝ }
@@ -81,7 +93,7 @@ pub fn is_sound(rec: &[u8]) -> bool
         & range::shares_in_range(n.size)
         & range::minimum_in_range(n.kind, n.size, n.minimum)
         & ((n.setter == 0) | ((n.setter == 1) & (n.kind == 1)))
-        & bytes::zeros(&rec[21..])
+        & is_clear_behind(rec)
 }
 
 // A setter mark as a number.

@@ -1,14 +1,16 @@
 -- The orders of a book lose their shares in one pass: what holds when the first i have lost theirs, and one turn.
 use Prim.Native.Nat.{ℕ, zero, suc, _+_, _-_, _*_, _≤_, _<_}
 use mathlib.Core.Path.{_≡_, refl, sym, ap, _∙_}
-use mathlib.Core.Bool.{true}
+use mathlib.Core.Bool.{true, false, _||_}
 use mathlib.Core.List.{List, [], _∷_, _++_, append-nil, append-assoc}
 use native.Mathlib.Omega.{arith}
 use native.Mathlib.Numerals.{add-one}
 use lib.ListN.{length, getD, take, drop, replicate, length-append, length-replicate, replicate-append-replicate}
 use lib.Seq.{take-all, drop-at}
-use borrow.Author.Tests.{lt-ltb, le-ltb}
+use lib.Dec.{ltb}
+use borrow.Author.Tests.{ltb-false, lt-ltb, le-ltb}
 use Rattle.units.specs.Lists.{filter, consIf, flatMap, zipWith}
+use Rattle.units.proofs.Tests.{or-false}
 use Rattle.units.proofs.Totals.{flat-last, cons-append}
 use Rattle.orders.specs.declared.order.Order.{Order}
 use Rattle.orders.specs.Order.{sizeOf, interest, interestOf, allShares, settled, isResting}
@@ -17,13 +19,16 @@ use Rattle.orders.proofs.Interests.{all-shares}
 use Rattle.record.specs.Codec.{replaced}
 use Rattle.record.specs.Record.{encodeOrder, decodeOrder}
 use Rattle.record.proofs.Numbers.{AreBytes}
-use Rattle.book.specs.Sound.{form, sound, ordersOf, bookOf, capacityOf}
+use Rattle.record.proofs.Orders.{order-facts}
+use Rattle.record.proofs.Pasting.{replaced-same}
+use Rattle.record.proofs.Settling.{settled-nothing}
+use Rattle.book.specs.Sound.{form, sound, ordersOf, bookOf, capacityOf, orderAt}
 use Rattle.book.proofs.Soundness.{orders-fit}
 use Rattle.book.proofs.Zeros.{zeros}
 use Rattle.book.proofs.Books.{length-order, length-orders}
 use Rattle.book.proofs.Checking.{sound-fits}
 use Rattle.book.proofs.Restoring.{book-orders}
-use Rattle.book.proofs.Access.{order-get}
+use Rattle.book.proofs.Access.{order-get, order-at-sound, record-here}
 use Rattle.settlement.proofs.Filling.{Filled, filled-none, filled-same, filled-more, filled-done}
 
 -- of the first i orders, those that still rest
@@ -127,6 +132,26 @@ module _ {s shown hidden b : List ℕ} {i kept : ℕ} (p : Passed s shown hidden
               (filled-more (p .bytes) (encodeOrder form left) (32 * (i + 1)) (omega (arith, length-order left, front-long)) (omega arith)
               (omega arith) front-long);
         }
+
+  -- the next order loses nothing, and each before it still rests: it stands in its place, and stays as it is
+  pub passed-same : sound s ≡ true → AreBytes s → i < length (ordersOf s) → (d e : ℕ)
+      → (ltb 0 (getD shown i d) || ltb 0 (getD hidden i e) || ltb kept i) ≡ false → Passed s shown hidden b (i + 1) (kept + 1)
+  passed-same a z h d e n =
+      let x = getD shown i d in
+      let y = getD hidden i e in
+      let u = or-false (ltb 0 x || ltb 0 y) (ltb kept i) n in
+      let t = or-false (ltb 0 x) (ltb 0 y) (u .0) in
+      let f : x ≡ 0 = omega (arith, ltb-false 0 x (t .0)) in
+      let g : y ≡ 0 = omega (arith, ltb-false 0 y (t .1)) in
+      let k : kept ≡ i = omega (arith, ltb-false kept i (u .1)) in
+      let o = orderAt s i in
+      let v = order-at-sound s i a h in
+      let q : o ≡ decodeOrder form (take 32 (drop (32 * i) b)) = ap (λ t. decodeOrder form (take 32 t)) (sym (p .bytes .same)) in
+      let r : o ≡ settled (interest x y) o = rw (f, g) (sym (settled-nothing o v)) in
+      let l : 0 < allShares (interestOf o) = omega (arith, all-shares o, order-facts o v .size-least) in
+      let w : encodeOrder form o ≡ take 32 (drop (32 * i) b) = record-here s i a h z ∙ ap (take 32) (sym (p .bytes .same)) in
+      let j : replaced (32 * kept) (encodeOrder form o) b ≡ b = rw (k, w) (replaced-same (32 * i) 32 b (omega arith)) in
+      rw j at (passed-kept h d e q r refl l)
 
   -- Every one of the n orders has lost its shares.
   module _ (a : sound s ≡ true) (z : AreBytes s) (n : ℕ) (e : i ≡ n) (h : n ≡ length (ordersOf s)) where

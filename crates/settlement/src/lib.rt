@@ -1,4 +1,6 @@
 // The book without the shares that its orders lost in a take.
+pub mod executions;
+
 use book::records;
 use book::records::RECORD_BYTES;
 use units::Shares;
@@ -24,7 +26,8 @@ fn clear(book: &mut [u8], at: usize, count: usize)
     }
 }
 
-// Each of the n orders loses its shares. The orders that still rest move up in one pass, with zeros behind.
+// Each of the n orders loses its shares. The orders that still rest move up in one pass, with zeros behind. A record that loses nothing and
+// stands in its place is not written.
 pub fn settle(book: &mut [u8], n: usize, shown: &[u32], hidden: &[u32])
     requires { ⌜ (sound (now book) ≡ true)
         × (n ≡ length (ordersOf (now book)))
@@ -36,11 +39,15 @@ pub fn settle(book: &mut [u8], n: usize, shown: &[u32], hidden: &[u32])
     let mut i = 0;
     let mut kept = 0;
     while i < n {
-        let order = records::order_at(book, RECORD_BYTES * i);
-        let left = order.settled(Shares(shown[i]), Shares(hidden[i]));
-        let size = left.shares();
-        if 0 < size.0 {
-            records::write_order(book, RECORD_BYTES * kept, left);
+        if (0 < shown[i]) | (0 < hidden[i]) | (kept < i) {
+            let order = records::order_at(book, RECORD_BYTES * i);
+            let left = order.settled(Shares(shown[i]), Shares(hidden[i]));
+            let size = left.shares();
+            if 0 < size.0 {
+                records::write_order(book, RECORD_BYTES * kept, left);
+                kept += 1;
+            }
+        } else {
             kept += 1;
         }
         i += 1;

@@ -1,5 +1,5 @@
-// How one group of orders divides shares: definitions and laws, for any lot. Knows nothing of orders or bytes. The code is in the crates
-// turns, rounds, lots and setter.
+// How one group of orders divides shares: definitions and laws, for any lot. Knows nothing of orders or bytes. The code is in the crate
+// dividing.
 
 // Who has its turn first: the earlier, the larger, or the one of the smaller minimum; between equals the earlier.
 pub enum Rank {

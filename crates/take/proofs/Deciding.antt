@@ -1,32 +1,39 @@
 -- What was allocated is the outcome: its executions, the shares left, and the orders afterwards.
-use Prim.Native.Nat.{ℕ, _*_, _≤_}
-use mathlib.Core.Path.{_≡_, ap, ap₂, _∙_}
-use mathlib.Core.Bool.{true, _&&_}
-use mathlib.Core.List.{List, _++_}
+use Prim.Native.Nat.{ℕ, suc, _≤_, _<_}
+use mathlib.Core.Path.{_≡_, sym, ap, _∙_}
+use mathlib.Core.Bool.{Bool, true, false, _&&_}
+use mathlib.Core.List.{List, [], _∷_, map}
 use native.Mathlib.Omega.{arith}
-use native.Mathlib.Nat.{zero-add}
-use lib.Dec.{leb}
-use lib.ListN.{length, take, drop}
-use lib.Seq.{length-take-le}
+use lib.Dec.{leb, ltb}
+use lib.ListN.{length, getD, take, length-map, length-take}
 use borrow.Author.Tests.{leb-true}
-use Rattle.units.specs.declared.Shares.{Shares}
-use Rattle.units.specs.Lists.{filter, zipWith, inRange}
+use Rattle.units.specs.Lists.{filter, consIf, zipWith, inRange, sum}
 use Rattle.units.specs.Lots.{roundLot}
+use Rattle.units.proofs.Members.{Every, every-weaken}
 use Rattle.units.proofs.Tests.{and-true}
+use Rattle.units.specs.declared.Shares.{Shares}
 use Rattle.orders.specs.declared.order.Order.{Order}
 use Rattle.orders.specs.Order.{settled, isResting, priceInRange, sharesInRange}
 use Rattle.orders.specs.Losses.{lossesIn}
-use Rattle.record.specs.Codec.{replaced}
-use Rattle.matching.specs.declared.Algorithm.{Algorithm}
+use Rattle.book.specs.Sound.{sound, ordersOf, orderAt}
+use Rattle.book.proofs.Soundness.{OrdersSound, orders-sound}
+use Rattle.book.proofs.Checking.{sound-fits}
 use Rattle.matching.specs.declared.TakeRequest.{TakeRequest}
+use Rattle.matching.specs.declared.Algorithm.{Algorithm}
 use Rattle.matching.specs.declared.incoming.Incoming.{Incoming}
 use Rattle.matching.specs.Paragraph.{algorithmOf}
-use Rattle.matching.specs.Take.{allocations, lossesOf, Outcome, outcome}
+use Rattle.matching.specs.Take.{Outcome, outcome}
 use Rattle.matching.specs.TakeCall.{requestInRange, incomingOf, outcomeOf, written}
-use Rattle.ledger.specs.Progress.{Ledger, stateOf, inBytes, Bounded}
-use Rattle.allocation.specs.Walk.{begun, after}
-use Rattle.allocation.proofs.Losses.{none-added, losses-most}
-use Rattle.allocation.proofs.Toward.{length-bytes}
+use Rattle.parts.specs.Key.{placeIn, withShares}
+use Rattle.parts.proofs.Keys.{with-place}
+use Rattle.parts.specs.Arranged.{Arranged}
+use Rattle.allocation.specs.Walk.{Walks, executionOf, fillsOf}
+use Rattle.allocation.specs.Credit.{Ledger, ledger, leftIn, Room}
+use Rattle.allocation.specs.Sharing.{Book, Walked}
+use Rattle.allocation.proofs.Arranging.{arranged-ready}
+use Rattle.allocation.proofs.Dividing.{book-beside}
+use Rattle.allocation.proofs.Enough.{walk-within}
+use Rattle.allocation.proofs.Outcome.{walk-executions, walk-uses, walk-losses}
 
 -- a size in range is no more than the most
 pub size-most : (q : TakeRequest) → requestInRange q ≡ true → q .size ≤ 999999
@@ -35,47 +42,161 @@ size-most q e =
     let b = and-true (inRange 1 2 (q .side) && priceInRange (q .limit)) (sharesInRange (q .size)) (a .0) in
     leb-true (q .size) 999999 (and-true (leb 1 (q .size)) (leb (q .size) 999999) (b .1) .1)
 
--- what was allocated, with the incoming order, the algorithm and the lot that the call says
-pub allocated : (q : TakeRequest) (os : List Order) (k : Ledger) {n : ℕ} {i : Incoming} {alg : Algorithm} {lot : Shares}
-    → n ≡ length os → i ≡ incomingOf q → alg ≡ algorithmOf (q .algorithm) → lot .0 ≡ roundLot
-    → stateOf n k ≡ after os (begun os (i .size .0)) (allocations (lot .0) alg i os)
-    → stateOf (length os) k ≡ after os (begun os (q .size)) (allocations roundLot (algorithmOf (q .algorithm)) (incomingOf q) os)
-allocated q os k a b c d e = rw (a, b, c, d) at e
+-- What a take has come to is the outcome.
+pub record Decided (q : TakeRequest) (s : List ℕ) (end : Ledger) : Type 0 where
+  -- there are as many fills as executions, in their memory, each of an order of the book
+  pub count : end .progress .count ≡ length (outcomeOf q (ordersOf s) .executions)
+  pub fits : end .progress .count ≤ length (end .fills)
+  pub few : end .progress .count ≤ 512
+  pub places : Every (λ k. placeIn k < length (ordersOf s)) (take (end .progress .count) (end .fills))
+  -- their executions, the shares left, and the orders that still rest
+  pub written : (x : List ℕ) → written (map (executionOf (orderAt s)) (take (end .progress .count) (end .fills))) x
+      ≡ written (outcomeOf q (ordersOf s) .executions) x
+  pub left : leftIn end ≡ outcomeOf q (ordersOf s) .left
+  pub orders : (n : ℕ) → n ≡ length (ordersOf s)
+      → filter isResting (zipWith settled (lossesIn n (end .allotment) (end .allotment)) (ordersOf s)) ≡ outcomeOf q (ordersOf s) .orders
 
--- Allocated under the algorithm and with the lot of the call.
-module _ (q : TakeRequest) (os : List Order) (k : Ledger) (b : Bounded k)
-    (e : stateOf (length os) k ≡ after os (begun os (q .size)) (allocations roundLot (algorithmOf (q .algorithm)) (incomingOf q) os)) where
-  abbrev out : Outcome
-  out = outcomeOf q os
+-- a fill is of the record that its key is of
+fills-within : (m : ℕ) (keys gets : List ℕ) → Every (λ k. placeIn k < m) keys → sum gets < 1048576 → Every (λ k. placeIn k < m) (fillsOf keys gets)
+fills-within m [] gets a h = tt
+fills-within m (k ∷ keys) [] a h = tt
+fills-within m (k ∷ keys) (n ∷ gets) a h = go (ltb 0 n) (fills-within m keys gets (a .1) (omega arith))
+  where
+    go : (c : Bool) → Every (λ x. placeIn x < m) (fillsOf keys gets) → Every (λ x. placeIn x < m) (consIf c (withShares n k) (fillsOf keys gets))
+    go true r = (omega (arith, with-place n k (omega arith), a .0), r)
+    go false r = r
 
-  -- the log has the bytes of the outcome's executions
-  decided-log : take (16 * k .count) (k .log) ≡ inBytes (out .executions)
-  unfolding after outcomeOf outcome
-  decided-log = ap (λ s. s .logged) e
+fills-few : (keys gets : List ℕ) → length (fillsOf keys gets) ≤ length keys
+fills-few [] gets = omega arith
+fills-few (k ∷ keys) [] = omega arith
+fills-few (k ∷ keys) (n ∷ gets) = go (ltb 0 n) (fills-few keys gets)
+  where
+    go : (c : Bool) → length (fillsOf keys gets) ≤ length keys → length (consIf c (withShares n k) (fillsOf keys gets)) ≤ suc (length keys)
+    go true r = omega arith
+    go false r = omega arith
 
-  log-long : length (take (16 * k .count) (k .log)) ≡ 16 * k .count
-  log-long = length-take-le (16 * k .count) (k .log) (omega (arith, b .counted, b .longLog))
+-- a walk with the same numbers
+walks-as : (at : ℕ → Order) {lot lot′ left left′ : ℕ} {alg alg′ : Algorithm} {keys gets : List ℕ} → lot ≡ lot′ → alg ≡ alg′ → left ≡ left′
+    → Walks at lot alg keys left gets → Walks at lot′ alg′ keys left′ gets
+walks-as at a b c w = rw (a, b, c) at w
 
-  -- as many as are counted
-  pub decided-count : k .count ≡ length (out .executions)
-  decided-count = omega (arith, log-long, ap length decided-log, length-bytes (out .executions))
+module _ (q : TakeRequest) (s : List ℕ) (e : requestInRange q ≡ true) (f : sound s ≡ true) where
+  abbrev os : List Order
+  os = ordersOf s
 
-  -- in the execution buffer they are written
-  pub decided-written : (x : List ℕ) → replaced 0 (take (16 * k .count) (k .log)) x ≡ written (out .executions) x
-  unfolding written
-  decided-written x =
-      ap₂ (λ bs n. bs ++ drop n x) decided-log
-      (zero-add (length (take (16 * k .count) (k .log))) ∙ log-long ∙ ap (λ n. 16 * n) decided-count)
+  abbrev alg : Algorithm
+  alg = algorithmOf (q .algorithm)
 
-  -- the shares left are the outcome's
-  pub decided-left : k .incoming .size .0 ≡ out .left
-  unfolding after outcomeOf outcome
-  decided-left = ap (λ s. s .left) e
+  abbrev i : Incoming
+  i = incomingOf q
 
-  -- so are the orders that still rest
-  pub decided-orders : {n : ℕ} → n ≡ length os → filter isResting (zipWith settled (lossesIn n (k .shown) (k .hidden)) os) ≡ out .orders
-  unfolding after outcomeOf outcome
-  decided-orders l =
-      let rows = allocations roundLot (algorithmOf (q .algorithm)) (incomingOf q) os in
-      ap (λ ls. filter isResting (zipWith settled ls os))
-      (ap (λ n. lossesIn n (k .shown) (k .hidden)) l ∙ ap (λ s. s .losses) e ∙ none-added os (lossesOf os rows) (losses-most os rows))
+  fine : OrdersSound os
+  fine = orders-sound s f
+
+  few : length os ≤ 256
+  few = sound-fits s f .1
+
+  -- The incoming order, the algorithm and the lot that the call says, and the keys in their order.
+  module _ {order : Incoming} {algorithm : Algorithm} {lot : Shares} (x : order ≡ i) (y : algorithm ≡ alg) (v : lot .0 ≡ roundLot)
+      {keys : List ℕ} (arranged : Arranged (lot .0) algorithm order os keys) (l : length keys ≤ 512) where
+    a : Arranged roundLot alg i os keys
+    a = rw (x, y, v) at arranged
+
+    book : Book s roundLot alg (i .taker .side) keys
+    book = record {
+      isSound = f;
+      hasLot = omega arith;
+      ready = arranged-ready roundLot alg i (orderAt s) os (book-beside s) (fine .each) few a;
+      few = l;
+    }
+
+    -- they can be walked
+    pub arranged-book : Book s (lot .0) algorithm (order .taker .side) keys
+    arranged-book = rw (x, y, v) book
+
+    pub arranged-room : {fills allotment : List ℕ} → length keys ≤ length fills → length os ≤ length allotment → ((j : ℕ) → getD allotment j 0 ≡ 0)
+        → Room keys (ledger (record { incoming = order; count = 0 }) fills allotment)
+    arranged-room h k z = record {
+      fills = omega arith;
+      places = every-weaken (λ j p. omega (arith, p .within)) keys (book .ready .each);
+      bounded = λ j. omega (arith, z j, ap (λ (o : Incoming). o .size .0) x, size-most q e);
+    }
+
+    -- What the walk came to.
+    module _ {fills allotment : List ℕ} {end : Ledger} (z : (j : ℕ) → getD allotment j 0 ≡ 0) (r : length os ≤ length (end .allotment))
+        (walked : Walked s keys (lot .0) algorithm (ledger (record { incoming = order; count = 0 }) fills allotment) end) where
+      abbrev out : Outcome
+      out = outcomeOf q os
+
+      abbrev gets : List ℕ
+      gets = walked .gets
+
+      reaches : order .size .0 ≡ q .size
+      reaches = ap (λ (o : Incoming). o .size .0) x
+
+      walks : Walks (orderAt s) roundLot alg keys (i .size .0) gets
+      walks = walks-as (orderAt s) v y reaches (walked .walks)
+
+      -- the fills are those of the walk
+      fills-are : take (end .progress .count) (end .fills) ≡ fillsOf keys gets
+      fills-are = walked .credited .fills
+
+      -- there is room for them, and they are no more than the keys
+      decided-room : end .progress .count ≤ length (end .fills)
+      decided-room = omega (arith, length-take (end .progress .count) (end .fills), ap length fills-are, walked .credited .count)
+
+      decided-few : end .progress .count ≤ length keys
+      decided-few = omega (arith, walked .credited .count, fills-few keys gets)
+
+      executions-are : map (executionOf (orderAt s)) (take (end .progress .count) (end .fills)) ≡ out .executions
+      unfolding outcomeOf outcome
+      executions-are =
+          ap (map (executionOf (orderAt s))) fills-are
+          ∙ sym (walk-executions roundLot (omega arith) alg i (size-most q e) (orderAt s) os fine few (book-beside s) a walks)
+
+      -- as many as are counted
+      decided-count : end .progress .count ≡ length (out .executions)
+      decided-count =
+          omega (arith, walked .credited .count, ap length fills-are, ap length executions-are, length-map (take (end .progress .count) (end .fills)) (executionOf (orderAt s)))
+
+      -- in the execution buffer they are written
+      decided-written : (x : List ℕ) → written (map (executionOf (orderAt s)) (take (end .progress .count) (end .fills))) x ≡ written (out .executions) x
+      decided-written x = ap (λ es. written es x) executions-are
+
+      -- the shares left are the outcome's
+      decided-left : leftIn end ≡ out .left
+      unfolding outcomeOf outcome
+      decided-left =
+          omega (
+            arith,
+            ap (λ (o : Incoming). o .size .0) (walked .credited .left),
+            reaches,
+            walk-uses roundLot (omega arith) alg i (size-most q e) (orderAt s) os fine few (book-beside s) a walks,
+          )
+
+      -- so are the orders that still rest
+      decided-orders : (m : ℕ) → m ≡ length os → filter isResting (zipWith settled (lossesIn m (end .allotment) (end .allotment)) os) ≡ out .orders
+      unfolding outcomeOf outcome
+      decided-orders m c =
+          ap (λ k. filter isResting (zipWith settled (lossesIn k (end .allotment) (end .allotment)) os)) c
+          ∙ ap (filter isResting)
+          (sym (walk-losses roundLot (omega arith) alg i (size-most q e) (orderAt s) os fine few (book-beside s) a walks (end .allotment) r
+          (λ j h. omega (arith, walked .credited .allotment j, z j))))
+
+      -- each is of an order of the book
+      decided-places : Every (λ k. placeIn k < length os) (take (end .progress .count) (end .fills))
+      decided-places =
+          rw fills-are
+          (fills-within (length os) keys gets (every-weaken (λ k x. x .within) keys (book .ready .each))
+          (omega (arith, size-most q e, walk-within roundLot (omega arith) alg (i .taker) (orderAt s) os fine few (book-beside s) walks (book .ready))))
+
+      pub decided : Decided q s end
+      decided = record {
+        count = decided-count;
+        fits = decided-room;
+        few = omega (arith, decided-few);
+        places = decided-places;
+        written = decided-written;
+        left = decided-left;
+        orders = decided-orders;
+      }

@@ -1,2 +1,4 @@
 pub mod Answers
 pub mod Deciding
+pub mod Idle
+pub mod Memory

@@ -1,5 +1,4 @@
 // The call take. It decides first, from a book that it only reads and into memory of its own, and then writes what was decided.
-use allocation::walk;
 use matching::Algorithm;
 use matching::TakeRequest;
 use matching::Taken;
@@ -7,16 +6,19 @@ use matching::incoming::Incoming;
 use orders::order::Side;
 use orders::order::Taker;
 use orders::range;
-use record::bytes;
 use record::execution::EXECUTION_BYTES;
+use settlement::executions;
 use units::Price;
 use units::Shares;
 ghost use mathlib.Core.Path.{_≡_};
 ghost use mathlib.Core.Bool.{true};
+ghost use Prim.Native.Nat.{ℕ, _≤_};
+ghost use lib.ListN.{getD};
 ghost use Rattle.book.specs.Sound.{sound};
 ghost use Rattle.matching.specs.TakeCall.{requestInRange, incomingOf, takeCall};
 ghost use Rattle.matching.specs.Fairness.{FairTake};
-ghost use Rattle.ledger.specs.Progress.{NoLosses};
+ghost use Rattle.take.specs.Answers.{Answers};
+ghost use Rattle.take.specs.Memory.{Sound, Memory};
 
 // Whether the numbers are in their ranges.
 fn in_range(q: TakeRequest) -> bool
@@ -53,16 +55,130 @@ fn refused(refusal: u32) -> Taken
     }
 }
 
-// A log without executions.
-fn no_executions() -> [u8; 4096] {
-    [0; 4096]
+// An accepted take in memory that is lent: decided first, from a book that is only read, then written. Keys, spare and columns may hold
+// anything; the allotment says of each record that it has got nothing yet.
+fn take_in(
+    book: &mut [u8],
+    executions: &mut [u8],
+    n: usize,
+    request: TakeRequest,
+    keys: &mut [u64],
+    spare: &mut [u64],
+    sizes: &mut [u32],
+    minimums: &mut [u32],
+    gets: &mut [u32],
+    allotment: &mut [u32],
+) -> Taken
+    requires { ⌜ Sound request (now book) n × Memory n (now keys) (now spare) (now sizes) (now minimums) (now gets) (now allotment) ⌝ }
+    ensures { λ r. ⌜ Answers request (now (book .entry)) (now (executions .entry)) r (now (book .exit)) (now (executions .exit)) ⌝ }
+{
+    let incoming = incoming_of(request);
+    let algorithm = Algorithm::of(request.algorithm);
+    let lot = units::round_lot();
+    let parts = parts::arrange(book, n, incoming, algorithm, lot, keys, spare);
+    if parts == 0 {
+        return Taken {
+            refusal: 0,
+            count: 0,
+            left: request.size,
+        };
+    }
+    let reached = allocation::allocate(
+        book,
+        &keys[..parts],
+        incoming,
+        algorithm,
+        lot,
+        sizes,
+        minimums,
+        gets,
+        spare,
+        allotment,
+    );
+    let count = reached.count;
+    if executions.len() / EXECUTION_BYTES < count {
+        return refused(8);
+    }
+    let order = reached.incoming;
+    let left = order.size;
+    executions::write(book, &spare[..count], executions);
+    settlement::settle(book, n, allotment, allotment);
+    Taken {
+        refusal: 0,
+        count: count as u32,
+        left: left.0,
+    }
 }
 
-// Nothing is lost by any order.
-fn no_losses() -> [u32; 256]
-    ensures { λ r. ⌜ NoLosses r ⌝ }
+// Memory for a few parts, and for as many as a book can have: two for each order.
+fn few_keys() -> [u64; 64] {
+    [0; 64]
+}
+
+fn all_keys() -> [u64; 512] {
+    [0; 512]
+}
+
+fn few_shares() -> [u32; 32]
+    ensures { λ r. ⌜ ((i : ℕ) → getD r i 0 ≡ 0) ⌝ }
+{
+    [0; 32]
+}
+
+fn all_shares() -> [u32; 256]
+    ensures { λ r. ⌜ ((i : ℕ) → getD r i 0 ≡ 0) ⌝ }
 {
     [0; 256]
+}
+
+// A take from a book of a few orders: clearing memory for all would cost more than the take.
+fn small(book: &mut [u8], executions: &mut [u8], n: usize, request: TakeRequest) -> Taken
+    requires { ⌜ Sound request (now book) n × (n ≤ 32) ⌝ }
+    ensures { λ r. ⌜ Answers request (now (book .entry)) (now (executions .entry)) r (now (book .exit)) (now (executions .exit)) ⌝ }
+{
+    let mut keys = few_keys();
+    let mut spare = few_keys();
+    let mut sizes = few_shares();
+    let mut minimums = few_shares();
+    let mut gets = few_shares();
+    let mut allotment = few_shares();
+    take_in(
+        book,
+        executions,
+        n,
+        request,
+        &mut keys,
+        &mut spare,
+        &mut sizes,
+        &mut minimums,
+        &mut gets,
+        &mut allotment,
+    )
+}
+
+// A take from a book of any number of orders.
+fn large(book: &mut [u8], executions: &mut [u8], n: usize, request: TakeRequest) -> Taken
+    requires { ⌜ Sound request (now book) n × (n ≤ 256) ⌝ }
+    ensures { λ r. ⌜ Answers request (now (book .entry)) (now (executions .entry)) r (now (book .exit)) (now (executions .exit)) ⌝ }
+{
+    let mut keys = all_keys();
+    let mut spare = all_keys();
+    let mut sizes = all_shares();
+    let mut minimums = all_shares();
+    let mut gets = all_shares();
+    let mut allotment = all_shares();
+    take_in(
+        book,
+        executions,
+        n,
+        request,
+        &mut keys,
+        &mut spare,
+        &mut sizes,
+        &mut minimums,
+        &mut gets,
+        &mut allotment,
+    )
 }
 
 // An incoming order takes shares from the orders of the book. Its executions go into the second buffer, from its start. The numbers may
@@ -83,30 +199,8 @@ pub fn take(book: &mut [u8], executions: &mut [u8], request: TakeRequest) -> Tak
         return refused(refusal);
     }
     let n = checked.orders as usize;
-    let mut log = no_executions();
-    let mut shown = no_losses();
-    let mut hidden = no_losses();
-    let progress = walk::allocate(
-        book,
-        n,
-        &mut log,
-        &mut shown,
-        &mut hidden,
-        incoming_of(request),
-        Algorithm::of(request.algorithm),
-        units::round_lot(),
-    );
-    let count = progress.count;
-    if executions.len() / EXECUTION_BYTES < count {
-        return refused(8);
+    if n <= 32 {
+        return small(book, executions, n, request);
     }
-    let incoming = progress.incoming;
-    let left = incoming.size;
-    bytes::put(executions, 0, &log[..EXECUTION_BYTES * count]);
-    settlement::settle(book, n, &shown, &hidden);
-    Taken {
-        refusal: 0,
-        count: count as u32,
-        left: left.0,
-    }
+    large(book, executions, n, request)
 }

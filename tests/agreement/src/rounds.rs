@@ -21,6 +21,8 @@ pub enum Making {
     Empty,
     Grown,
     Built,
+    /// Built, of two to six orders.
+    Few,
     Full,
     /// Of no or hardly any records.
     Tiny,
@@ -31,7 +33,8 @@ pub struct Group {
     pub name: &'static str,
     making: Making,
     kinds: [usize; 3],
-    sizes: Option<Sizes>,
+    /// What the group's shapes have in common beside the kinds.
+    reshape: fn(&mut Shape),
     caller: Caller,
     calls: usize,
 }
@@ -46,7 +49,7 @@ fn group(name: &'static str, making: Making, mix: [usize; 5], calls: usize) -> G
         name,
         making,
         kinds: EVEN,
-        sizes: None,
+        reshape: |_| {},
         caller: Caller {
             mix,
             wrong: 40,
@@ -57,18 +60,13 @@ fn group(name: &'static str, making: Making, mix: [usize; 5], calls: usize) -> G
 }
 
 pub fn groups() -> Vec<Group> {
-    let mut setters = group("price setters", Making::Grown, MOSTLY_TAKE, 8);
-    setters.kinds = [8, 1, 1];
-    setters.caller.algorithms = [1, 1, 6];
-    let mut marks = group("setter marks at every price", Making::Built, MOSTLY_TAKE, 5);
-    marks.kinds = [8, 1, 1];
-    marks.caller.algorithms = [0, 0, 1];
     let mut minimums = group("minimum quantity orders", Making::Built, MOSTLY_TAKE, 6);
     minimums.kinds = [1, 2, 8];
     let mut large = group("large sizes", Making::Built, MIXED, 10);
-    large.sizes = Some(Sizes::Large);
+    large.reshape = |shape| shape.sizes = Sizes::Large;
     let mut wrong = group("wrong numbers", Making::Grown, MIXED, 20);
     wrong.caller.wrong = 2;
+    let [setters, marks, equals] = setter_groups();
     vec![
         group("books filled from empty", Making::Empty, MOSTLY_ADD, 40),
         group("books grown by add", Making::Grown, MIXED, 15),
@@ -82,11 +80,30 @@ pub fn groups() -> Vec<Group> {
         group("books of no or few records", Making::Tiny, MIXED, 15),
         setters,
         marks,
+        equals,
         minimums,
         large,
         wrong,
         group("damaged books", Making::Damaged, MIXED, 12),
     ]
+}
+
+/// The groups whose takes are mostly by the price-setter variation.
+fn setter_groups() -> [Group; 3] {
+    let mut setters = group("price setters", Making::Grown, MOSTLY_TAKE, 8);
+    setters.kinds = [8, 1, 1];
+    setters.caller.algorithms = [1, 1, 6];
+    let mut marks = group("setter marks at every price", Making::Built, MOSTLY_TAKE, 5);
+    marks.kinds = [8, 1, 1];
+    marks.caller.algorithms = [0, 0, 1];
+    let mut equals = group("setters among equal sizes", Making::Few, MOSTLY_TAKE, 5);
+    equals.kinds = [8, 1, 1];
+    equals.reshape = |shape| {
+        shape.sizes = Sizes::Alike;
+        shape.levels = 1;
+    };
+    equals.caller.algorithms = [0, 0, 1];
+    [setters, marks, equals]
 }
 
 impl Group {
@@ -117,7 +134,7 @@ impl Group {
     ) -> Result<u64, String> {
         let mut random = Random::new(seed, self.stream());
         let mut shape = Shape::random(&mut random, self.kinds);
-        shape.sizes = self.sizes.unwrap_or(shape.sizes);
+        (self.reshape)(&mut shape);
         let mut book = self.book(&mut random, &shape);
         let mut known = book::read(&book).expect("a sound book");
         let damage = self.damage(&mut random, &mut book, &known);
@@ -154,6 +171,10 @@ impl Group {
             Making::Empty => vec![0; records * RECORD_LENGTH],
             Making::Grown => shape.grown_book(random, records, 2 * records),
             Making::Built => shape.built_book(random, records, few),
+            Making::Few => {
+                let orders = random.within(2..=6) as usize;
+                shape.built_book(random, records.max(orders), orders)
+            }
             Making::Full => {
                 let free = random.one_of(&[0, 0, 0, 1, 2, 16]);
                 shape.built_book(random, FULL_BOOK, FULL_BOOK - free)

@@ -9,6 +9,8 @@ pub enum Sizes {
     AroundLots,
     /// Up to a little more than a round lot.
     OddLots,
+    /// Mostly the usual size, or else somewhat more.
+    Alike,
     /// Up to the largest size.
     Large,
 }
@@ -19,6 +21,8 @@ pub struct Shape {
     /// How many prices a side has.
     pub levels: u32,
     pub sizes: Sizes,
+    /// The size that most orders have if sizes are alike.
+    pub usual: u32,
     /// How often displayed, non-displayed and minimum quantity orders come.
     pub kinds: [usize; 3],
     /// Whether buys and sells have the same prices, or meet at one at most.
@@ -41,8 +45,10 @@ impl Shape {
                 Sizes::AroundLots,
                 Sizes::AroundLots,
                 Sizes::OddLots,
+                Sizes::Alike,
                 Sizes::Large,
             ]),
+            usual: random.one_of(&[40, 99, 250, 500, 1_000]),
             kinds,
             overlap: random.once_in(3),
             lowest: random.one_of(&[1, 100_000, highest]),
@@ -69,6 +75,7 @@ impl Shape {
                 100 * lots - 50 + random.one_of(&[0, 49, 50, 50, 51, 99, 100, 101])
             }
             Sizes::OddLots => random.within(1..=130),
+            Sizes::Alike => self.usual + random.one_of(&[0, 0, 0, 0, 0, 0, 1, 50]),
             Sizes::Large => {
                 random.one_of(&[LARGEST_SIZE, LARGEST_SIZE - 1, 500_000, 100_050])
                     - random.within(0..=1_000) * random.within(0..=1)
@@ -94,20 +101,16 @@ impl Shape {
     /// A sound book of so many records, so many of them orders, written record
     /// by record: sides may overlap, and marks may be where add sets none.
     pub fn built_book(&self, random: &mut Random, records: usize, orders: usize) -> Vec<u8> {
-        let first = random.one_of(&[1, 1_000, u32::MAX - 3 * 256]);
-        let marks = random.one_of(&[0, 1, 2, 5]);
+        let mut next = random.one_of(&[1, 1_000, u32::MAX - 3 * 256]);
         let mut placed: Vec<Order> = Vec::new();
-        let mut next = first;
         for _ in 0..orders {
             let [side, kind, number, price, size, minimum] = self.order(random, next);
-            let mut order = Order::of_numbers(side, kind, number, price, size, minimum)
+            let order = Order::of_numbers(side, kind, number, price, size, minimum)
                 .expect("numbers within their ranges");
-            order.setter = order.is_displayed()
-                && random.once_in(marks)
-                && !placed.iter().any(|other| is_rival_setter(other, &order));
             placed.push(order);
             next += random.within(1..=3);
         }
+        set_marks(random, &mut placed);
         let mut book = vec![0; records * RECORD_LENGTH];
         book::write(&mut book, &placed);
         book
@@ -121,6 +124,23 @@ impl Shape {
             model::add(&mut book, side, kind, number, price, size, minimum);
         }
         book
+    }
+}
+
+/// Marks some displayed orders, at most one of a side and price: none, the first
+/// or the last of each, or one by chance.
+fn set_marks(random: &mut Random, orders: &mut [Order]) {
+    let once_in = random.one_of(&[0, 1, 2, 5]);
+    let mut places: Vec<usize> = (0..orders.len()).collect();
+    if random.once_in(2) {
+        places.reverse();
+    }
+    for place in places {
+        orders[place].setter = orders[place].is_displayed()
+            && random.once_in(once_in)
+            && !orders
+                .iter()
+                .any(|other| is_rival_setter(other, &orders[place]));
     }
 }
 

@@ -7,7 +7,7 @@ use borrow.Author.Needs.{needs}
 use lib.ListN.{length}
 use Rattle.record.proofs.Numbers.{are-bytes}
 use Rattle.book.specs.Sound.{ordersOf}
-use Rattle.settlement.proofs.Passing.{Passed, passed-none, passed-gone, passed-kept, passed-done}
+use Rattle.settlement.proofs.Passing.{Passed, passed-none, passed-gone, passed-kept, passed-same, passed-done}
 use Rattle.settlement.proofs.settle.Statement.{statement}
 use Rattle.settlement.proofs.settle.Tie as tie
 
@@ -22,17 +22,18 @@ loop-holds c = let p = c .before .before .before .pre in passed-none (p .0) (ome
 
 loop-again : tie.Need-loop-again Inv-loop μ-loop
 loop-again c =
-    let k = c .before .before in
-    let r = k .before in
-    let q = r .before .before .before in
-    let l = q .before .before .before in
-    let a = l .before .before .before .before .args in
+    let l = c .before .before .before .before in
+    let e = l .before .before .before in
+    let a = e .before .args in
+    let p = l .loop .inv in
     let h : l .loop .i < length (ordersOf (a .book .now)) = search needs in
+    let z = are-bytes (a .book .now) (λ k. omega (arith, e .slice-known .given k)) in
     ⊎-elim
-    (λ w. rw (w .5, w .6, w .2 .ensures)
-    (passed-kept (l .loop .inv) h _ _ (q .order-at .ensures) (r .settled .ensures) (k .shares .ensures) (w .0 .taken)))
-    (λ w. rw (w .1, w .2)
-    (passed-gone (l .loop .inv) h _ _ (q .order-at .ensures) (r .settled .ensures) (k .shares .ensures) (w .0 .left)))
+    (λ w. rw (w .13, w .14, w .10 .ensures)
+    (passed-kept p h _ _ (w .2 .ensures) (w .5 .ensures) (w .6 .ensures) (w .8 .taken)))
+    (⊎-elim
+    (λ w. rw (w .9, w .10) (passed-gone p h _ _ (w .2 .ensures) (w .5 .ensures) (w .6 .ensures) (w .8 .left)))
+    (λ w. rw (w .1, w .2) (passed-same p (e .before .pre .0) z h _ _ (w .0 .left))))
     (c .if1 .came)
 
 returns : tie.Need-returns Inv-loop μ-loop
@@ -48,7 +49,8 @@ pub settle-spec : {M : Type 1} → statement M
 settle-spec =
     tie.close
     (tie.spec
-    Inv-loop μ-loop loop-holds (λ c. search needs) (λ c κs. search needs) (λ c. search needs) (λ c. search needs)
-    (λ c. search needs) (λ c. search needs) (λ c κs. search needs) (λ c κs. search needs) (λ c. search needs) (λ c κs. search needs)
-    (λ c. search needs) (λ c. search needs) (λ c. search needs) loop-again (λ c. search needs) (λ c. search needs) (λ c. search needs)
+    Inv-loop μ-loop loop-holds (λ c. search needs) (λ c. search needs) (λ c. search needs) (λ c. search needs)
+    (λ c. search needs) (λ c κs. search needs) (λ c. search needs) (λ c. search needs) (λ c. search needs) (λ c. search needs)
+    (λ c κs. search needs) (λ c κs. search needs) (λ c. search needs) (λ c κs. search needs) (λ c. search needs) (λ c. search needs)
+    (λ c. search needs) (λ c. search needs) loop-again (λ c. search needs) (λ c. search needs) (λ c. search needs)
     (λ c κs. search needs) (λ c. search needs) returns)

@@ -3,16 +3,13 @@ use Prim.Native.Nat.{ℕ}
 use mathlib.Core.Path.{_≡_, sym, ap, _∙_}
 use mathlib.Core.Bool.{Bool, _&&_}
 use mathlib.Core.List.{List, [], _∷_}
-use native.Mathlib.Omega.{arith}
 use borrow.Author.Needs.{needs}
-use lib.ListN.{length, getD, take, drop, length-drop}
-use lib.Seq.{take-all}
+use lib.ListN.{length, getD, take, drop}
 use Rattle.units.specs.Lists.{all, inRange, isZero}
 use Rattle.units.proofs.Facts.{chain, chain-all}
-use Rattle.units.proofs.Scanning.{take-rest}
 use Rattle.record.specs.Codec.{decode, hasMark}
 use Rattle.record.specs.Record.{orderForm, recordSound}
-use Rattle.record.proofs.Reading.{split-zero, numbersAt, split-at, decode-at}
+use Rattle.record.proofs.Reading.{rest-zero, decode-at}
 use Rattle.record.proofs.Rows.{tests}
 use Rattle.record.proofs.Records.{record-chain}
 use Rattle.record.proofs.order_record.is_sound.Statement.{statement}
@@ -22,13 +19,6 @@ use Rattle.record.proofs.order_record.is_sound.Tie as tie
 abbrev front : List ℕ → List ℕ → Bool
 front s ns = chain (hasMark orderForm s && inRange 1 2 (getD ns 0 0)) (take 6 (tests ns))
 
--- the numbers behind them are zero where the bytes are
-back-zero : (s : List ℕ) → length s ≡ 32 → all isZero (numbersAt (1 ∷ 2 ∷ 8 ∷ []) 21 s) ≡ all isZero (drop 21 s)
-back-zero s h =
-    ap (all isZero) (sym (split-at (1 ∷ 2 ∷ 8 ∷ []) 21 s))
-    ∙ split-zero (1 ∷ 2 ∷ 8 ∷ []) (drop 21 s)
-    ∙ ap (all isZero) (take-all 11 (drop 21 s) (omega (arith, length-drop 21 s)))
-
 -- a record is sound where it passes them and is zero behind
 sound-at : (s : List ℕ) → length s ≡ 32 → recordSound orderForm s ≡ (front s (decode orderForm s) && all isZero (drop 21 s))
 sound-at s h =
@@ -36,11 +26,11 @@ sound-at s h =
     record-chain orderForm s
     ∙ chain-all f (isZero (getD (decode orderForm s) 7 0) ∷ isZero (getD (decode orderForm s) 8 0) ∷ isZero (getD (decode orderForm s) 9 0) ∷ [])
     ∙ ap (λ ns. f && all (λ b. b) (isZero (getD ns 7 0) ∷ isZero (getD ns 8 0) ∷ isZero (getD ns 9 0) ∷ [])) (decode-at orderForm s)
-    ∙ ap (λ b. f && b) (back-zero s h)
+    ∙ ap (λ b. f && b) (rest-zero (1 ∷ 2 ∷ 8 ∷ []) 21 s h)
 
 returns : tie.Need-returns
 returns c =
-    let m = c .before .before .before .before .before in
+    let m = c .before .before .before .before in
     let z = m .before in
     let p = z .before in
     let n = p .before in
@@ -51,7 +41,7 @@ returns c =
     let e = r .before .before in
     let s = e .args .rec .now in
     rw (
-      c .zeros .ensures ∙ ap (all isZero) (take-rest 21 s),
+      c .is-clear-behind .ensures,
       m .minimum-in-range .ensures,
       z .shares-in-range .ensures,
       p .price-in-range .ensures,
@@ -68,5 +58,4 @@ is-sound-spec =
     tie.close
     (tie.spec
     (λ c κs. search needs) (λ c κs. search needs) (λ c κs. search needs) (λ c κs. search needs) (λ c κs. search needs)
-    (λ c κs. search needs) (λ c κs. search needs) (λ c κs. search needs) (λ c. search needs) (λ c. search needs)
-    (λ c. search needs) (λ c κs. search needs) returns)
+    (λ c κs. search needs) (λ c κs. search needs) (λ c κs. search needs) (λ c κs. search needs) returns)

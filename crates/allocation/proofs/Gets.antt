@@ -1,0 +1,51 @@
+-- Numbers beside keys: one list of them behind another, and numbers that add up to nothing.
+use Prim.Native.Nat.{ℕ, _+_, _*_, _≤_}
+use mathlib.Core.Path.{_≡_, refl, ap, _∙_}
+use mathlib.Core.List.{List, [], _∷_, _++_, map}
+use native.Mathlib.Omega.{arith}
+use lib.Dec.{ltb, eqb}
+use lib.ListN.{length}
+use borrow.Author.Tests.{le-ltb}
+use Rattle.units.specs.Lists.{consIf, sum, total}
+use Rattle.units.proofs.Tests.{pick-least}
+use Rattle.units.proofs.Totals.{cons-append}
+use Rattle.parts.specs.Key.{placeIn, sharesIn, withShares}
+use Rattle.allocation.specs.Walk.{fillsOf, gotAt}
+
+-- fills of keys one behind another
+pub fills-append : (keys later gets more : List ℕ) → length gets ≡ length keys → fillsOf (keys ++ later) (gets ++ more) ≡ fillsOf keys gets ++ fillsOf later more
+fills-append [] later [] more e = refl
+fills-append [] later (n ∷ gets) more e = absurd (omega arith)
+fills-append (k ∷ keys) later [] more e = absurd (omega arith)
+fills-append (k ∷ keys) later (n ∷ gets) more e =
+    ap (consIf (ltb 0 n) (withShares n k)) (fills-append keys later gets more (omega arith))
+    ∙ cons-append (ltb 0 n) (withShares n k) (fillsOf keys gets) (fillsOf later more)
+
+-- and what a record gets
+pub got-append : (p : ℕ) (keys later gets more : List ℕ) → length gets ≡ length keys
+    → gotAt p (keys ++ later) (gets ++ more) ≡ gotAt p keys gets + gotAt p later more
+got-append p [] later [] more e = omega arith
+got-append p [] later (n ∷ gets) more e = absurd (omega arith)
+got-append p (k ∷ keys) later [] more e = absurd (omega arith)
+got-append p (k ∷ keys) later (n ∷ gets) more e = omega (arith, got-append p keys later gets more (omega arith))
+
+-- a record gets no more than all
+pub got-within : (p : ℕ) (keys gets : List ℕ) → gotAt p keys gets ≤ sum gets
+got-within p [] gets = omega arith
+got-within p (k ∷ keys) [] = omega arith
+got-within p (k ∷ keys) (n ∷ gets) = omega (arith, pick-least (eqb (placeIn k) p) n, got-within p keys gets)
+
+-- nobody got anything
+pub fills-none : (keys gets : List ℕ) → sum gets ≡ 0 → fillsOf keys gets ≡ []
+fills-none [] gets z = refl
+fills-none (k ∷ keys) [] z = refl
+fills-none (k ∷ keys) (n ∷ gets) z = rw (le-ltb 0 n (omega arith)) (fills-none keys gets (omega arith))
+
+pub sum-none : (keys : List ℕ) → sum (map (λ k. 0) keys) ≡ 0
+sum-none [] = refl
+sum-none (k ∷ keys) = omega (arith, sum-none keys)
+
+-- each key has fewer than 1,048,576 shares
+pub shares-most : (keys : List ℕ) → total sharesIn keys ≤ 1048576 * length keys
+shares-most [] = omega arith
+shares-most (k ∷ keys) = omega (arith, shares-most keys)

@@ -1,0 +1,130 @@
+-- The cells of an incoming order's price levels: in rising order, each at a price within the limit, and the group of every part is one of them.
+use Prim.Native.Nat.{ℕ, zero, suc, _+_, _*_, _≤_, _<_}
+use mathlib.Core.Path.{_≡_, refl}
+use mathlib.Core.Bool.{Bool, true, false}
+use mathlib.Core.List.{List, [], _∷_, _++_, map, List·Memᴰ, List·Memᴰ·head, List·Memᴰ·tail}
+use native.Mathlib.Omega.{arith}
+use lib.Dec.{leb}
+use lib.ListN.{length}
+use borrow.Author.Tests.{ltb-true}
+use Rattle.units.specs.Lists.{consIf}
+use Rattle.units.proofs.Members.{Every, every-member, every-append}
+use Rattle.units.proofs.Tests.{and-true}
+use Rattle.orders.specs.declared.order.Side.{Side}
+use Rattle.orders.specs.declared.order.Side.the-variants.{Buy, Sell}
+use Rattle.orders.specs.declared.order.Order.{Order}
+use Rattle.orders.specs.declared.order.Taker.{Taker}
+use Rattle.orders.specs.Order.{minimumOf, priceOf, sizeOf}
+use Rattle.orders.specs.Trading.{isBetter, isOppositeOf, withinLimit, isTradable}
+use Rattle.record.proofs.Orders.{OrderSound, order-facts}
+use Rattle.matching.specs.declared.Algorithm.{Algorithm}
+use Rattle.matching.specs.declared.Paragraph.{Paragraph}
+use Rattle.matching.specs.declared.incoming.Incoming.{Incoming}
+use Rattle.matching.specs.Paragraph.{paragraphs}
+use Rattle.matching.specs.Levels.{priceLevels}
+use Rattle.matching.proofs.Levels.{Sorted, levels-sorted, levels-have, levels-only}
+use Rattle.parts.specs.Key.{groupIn}
+use Rattle.parts.specs.Parts.{rankOn, paragraphPlace, partKey, mayMeet, keysFrom}
+use Rattle.parts.proofs.Paragraphs.{place-few}
+use Rattle.allocation.proofs.Cells.{place-below, part-group}
+use Rattle.allocation.proofs.Along.{Cell, cellsAt, cellsOver, numberOf, Ascends, Fine}
+
+-- a better price has a lower rank
+rank-better : (side : Side) (p q : ℕ) → p ≤ 2000000000 → isBetter side p q ≡ true → rankOn side p < rankOn side q
+rank-better Buy p q h b = ltb-true p q b
+rank-better Sell p q h b = omega (arith, ltb-true q p b)
+
+-- what holds of every cell of a price
+every-cell : (P : Cell → Type 0) (price : ℕ) → ((g : Paragraph) → P (price, g)) → (gs : List Paragraph) → Every P (cellsAt price gs)
+every-cell P price h [] = tt
+every-cell P price h (g ∷ gs) = (h g, every-cell P price h gs)
+
+every-over : (P : Cell → Type 0) (Q : ℕ → Type 0) → ((price : ℕ) (g : Paragraph) → Q price → P (price, g)) → (prices : List ℕ) → Every Q prices
+    → Every P (cellsOver prices)
+every-over P Q h [] a = tt
+every-over P Q h (p ∷ prices) a =
+    every-append P (cellsAt p paragraphs) (cellsOver prices) (every-cell P p (λ g. h p g (a .0)) paragraphs) (every-over P Q h prices (a .1))
+
+module _ (side : Side) where
+  -- one list of cells behind another
+  ascends-append : (cs ds : List Cell) → Ascends side cs → Ascends side ds → Every (λ c. Every (λ d. numberOf side c < numberOf side d) ds) cs
+      → Ascends side (cs ++ ds)
+  ascends-append [] ds a b e = b
+  ascends-append (c ∷ cs) ds a b e = (every-append (λ d. numberOf side c < numberOf side d) cs ds (a .0) (e .0), ascends-append cs ds (a .1) b (e .1))
+
+  -- the paragraphs of a price are in their order
+  ascends-at : (price : ℕ) → Ascends side (cellsAt price paragraphs)
+  ascends-at price = (
+    (omega arith, (omega arith, (omega arith, (omega arith, tt)))),
+    ((omega arith, (omega arith, (omega arith, tt))), ((omega arith, (omega arith, tt)), ((omega arith, tt), (tt, tt)))),
+  )
+
+  -- so are those of prices best first
+  ascends-over : (prices : List ℕ) → Every (λ p. p ≤ 2000000000) prices → Sorted side prices → Ascends side (cellsOver prices)
+  ascends-over [] h s = tt
+  ascends-over (p ∷ prices) h s =
+      ascends-append (cellsAt p paragraphs) (cellsOver prices) (ascends-at p) (ascends-over prices (h .1) (s .1))
+      (every-cell (λ c. Every (λ d. numberOf side c < numberOf side d) (cellsOver prices)) p
+      (λ g. every-over (λ d. numberOf side (p, g) < numberOf side d) (λ q. isBetter side p q ≡ true)
+      (λ q x b. omega (arith, rank-better side p q (h .0) b, place-below g)) prices (s .0)) paragraphs)
+
+  -- the number of a paragraph's group at one of the prices
+  cell-member : (prices : List ℕ) (p : ℕ) → List·Memᴰ p prices → (j : ℕ) → j < 5 → List·Memᴰ (8 * rankOn side p + j) (map (numberOf side) (cellsOver prices))
+  cell-member (q ∷ prices) p (List·Memᴰ·head e) j h = rw e (go j h)
+    where
+      more : List ℕ
+      more = map (numberOf side) (cellsOver prices)
+
+      go : (j : ℕ) → j < 5 → List·Memᴰ (8 * rankOn side q + j) (map (numberOf side) (cellsOver (q ∷ prices)))
+      go zero l = List·Memᴰ·head refl
+      go (suc zero) l = List·Memᴰ·tail (List·Memᴰ·head refl)
+      go (suc (suc zero)) l = List·Memᴰ·tail (List·Memᴰ·tail (List·Memᴰ·head refl))
+      go (suc (suc (suc zero))) l = List·Memᴰ·tail (List·Memᴰ·tail (List·Memᴰ·tail (List·Memᴰ·head refl)))
+      go (suc (suc (suc (suc zero)))) l = List·Memᴰ·tail (List·Memᴰ·tail (List·Memᴰ·tail (List·Memᴰ·tail (List·Memᴰ·head refl))))
+      go (suc (suc (suc (suc (suc j))))) l = absurd (omega arith)
+  cell-member (q ∷ prices) p (List·Memᴰ·tail m) j h =
+      List·Memᴰ·tail (List·Memᴰ·tail (List·Memᴰ·tail (List·Memᴰ·tail (List·Memᴰ·tail (cell-member prices p m j h)))))
+
+module _ (lot : ℕ) (alg : Algorithm) (i : Incoming) (os : List Order) (s : Every OrderSound os) where
+  abbrev t : Taker
+  t = i .taker
+
+  -- the cells of its price levels
+  abbrev pub cells : List Cell
+  cells = cellsOver (priceLevels t os)
+
+  most : Every (λ p. p ≤ 2000000000) (priceLevels t os)
+  most = levels-only t os (λ p. p ≤ 2000000000) (λ o m e. order-facts o (every-member OrderSound os s o m) .price-most)
+
+  pub cells-fine : Every (Fine t) cells
+  cells-fine =
+      every-over (Fine t) (λ p. (p ≤ 2000000000) × (withinLimit (t .side) (t .limit .0) p ≡ true)) (λ p g h. h) (priceLevels t os)
+      (levels-only t os (λ p. (p ≤ 2000000000) × (withinLimit (t .side) (t .limit .0) p ≡ true))
+      (λ o m e. (order-facts o (every-member OrderSound os s o m) .price-most, and-true (isOppositeOf t o) (withinLimit (t .side) (t .limit .0) (priceOf o)) e .1)))
+
+  pub cells-ascend : Ascends (t .side) cells
+  cells-ascend = ascends-over (t .side) (priceLevels t os) most (levels-sorted t os)
+
+  -- the group of every part is one of them
+  within-from : (p : ℕ) (xs : List Order) → ((o : Order) → List·Memᴰ o xs → List·Memᴰ o os) → Every OrderSound xs → p + length xs ≤ 512
+      → Every (λ k. List·Memᴰ (groupIn k) (map (numberOf (t .side)) cells)) (keysFrom lot alg i p xs)
+  unfolding keysFrom
+  within-from p [] m f h = tt
+  within-from p (o ∷ xs) m f h = go (mayMeet i o) refl (within-from (suc p) xs (λ x n. m x (List·Memᴰ·tail n)) (f .1) (omega arith))
+    where
+      Within : ℕ → Type 0
+      Within k = List·Memᴰ (groupIn k) (map (numberOf (t .side)) cells)
+
+      go : (b : Bool) → mayMeet i o ≡ b → Every Within (keysFrom lot alg i (suc p) xs)
+          → Every Within (consIf b (partKey lot alg (t .side) p o) (keysFrom lot alg i (suc p) xs))
+      go true e r =
+          let a = and-true (isTradable t o) (leb (minimumOf (o .kind)) (i .size .0)) e in
+          let n = levels-have t os o (m o (List·Memᴰ·head refl)) (a .0) in (
+            rw (part-group lot alg (t .side) p (omega arith) o (order-facts o (f .0)))
+                (cell-member (t .side) (priceLevels t os) (priceOf o) n (paragraphPlace lot alg (o .kind) (sizeOf o)) (place-few lot alg (o .kind) (sizeOf o))),
+            r,
+          )
+      go false e r = r
+
+  pub keys-within : length os ≤ 256 → Every (λ k. List·Memᴰ (groupIn k) (map (numberOf (t .side)) cells)) (keysFrom lot alg i 0 os)
+  keys-within few = within-from 0 os (λ o m. m) s (omega arith)

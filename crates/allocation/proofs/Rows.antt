@@ -1,0 +1,112 @@
+-- What a paragraph allots at a price, beside all orders of a book, and what the parts of its group get, beside their keys: the same.
+use Prim.Native.Nat.{ℕ, zero, suc, _+_, _<_}
+use mathlib.Core.Path.{_≡_, refl, sym, ap, ap₂, _∙_}
+use mathlib.Core.Bool.{Bool, true, false}
+use mathlib.Core.List.{List, [], _∷_, map}
+use native.Mathlib.Omega.{arith}
+use native.Mathlib.Nat.{zero-add}
+use lib.Dec.{ltb}
+use lib.ListN.{length, getD}
+use borrow.Author.Tests.{eq-eqb, ne-eqb}
+use Rattle.units.specs.Lists.{consIf, sum}
+use Rattle.units.proofs.Members.{Every}
+use Rattle.ordering.specs.Sorted.{Rising}
+use Rattle.sharing.specs.Rank.{Part}
+use Rattle.sharing.proofs.Thin.{Thin}
+use Rattle.orders.specs.declared.order.Order.{Order}
+use Rattle.orders.specs.Order.{priceOf}
+use Rattle.matching.specs.Paragraph.{paragraphNumber}
+use Rattle.matching.specs.Take.{executionsBy}
+use Rattle.parts.specs.Key.{groupIn, placeIn, withShares}
+use Rattle.parts.proofs.Keys.{with-group, with-place, with-shares}
+use Rattle.allocation.specs.Walk.{paragraphOf, partIn, executionOf, fillsOf, gotAt}
+use Rattle.allocation.proofs.LeftOut.{Idle}
+
+module _ (at : ℕ → Order) (price group bound : ℕ) where
+  -- Beside orders, the first at a place: their parts in a group, of which those that can get shares have keys.
+  pub data Row : ℕ → List Order → List Part → List ℕ → Type 0 where
+    none : (p : ℕ) → Row p [] [] []
+    keep : {p key : ℕ} {o : Order} {os : List Order} {part : Part} {parts : List Part} {keys : List ℕ}
+        → at p ≡ o → priceOf o ≡ price → placeIn key ≡ p → groupIn key ≡ group → part ≡ partIn at key
+        → Row (suc p) os parts keys → Row p (o ∷ os) (part ∷ parts) (key ∷ keys)
+    drop : {p : ℕ} {o : Order} {os : List Order} {part : Part} {parts : List Part} {keys : List ℕ}
+        → Idle bound part → Row (suc p) os parts keys → Row p (o ∷ os) (part ∷ parts) keys
+
+  -- the keys' parts are the others without those that can get nothing
+  pub row-thin : {p : ℕ} {os : List Order} {parts : List Part} {keys : List ℕ} → Row p os parts keys → Thin (Idle bound) parts (map (partIn at) keys)
+  row-thin (Row.none p) = Thin.none
+  row-thin (Row.keep h e k g q r) = rw q (Thin.keep (row-thin r))
+  row-thin (Row.drop z r) = Thin.drop z (row-thin r)
+
+  -- the places of the keys are no lower than the first
+  earlier : {p : ℕ} {os : List Order} {parts : List Part} {keys : List ℕ} → Row p os parts keys → (j : ℕ) → j < p → (ns : List ℕ) → gotAt j keys ns ≡ 0
+  earlier (Row.none p) j h ns = refl
+  earlier (Row.keep a e k g q r) j h [] = refl
+  earlier (Row.keep {p = p} {key = key} a e k g q r) j h (n ∷ ns) =
+      rw (ne-eqb (placeIn key) j (λ z. omega arith), zero-add) (earlier r j (omega arith) ns)
+  earlier (Row.drop z r) j h ns = earlier r j (omega arith) ns
+
+  -- the keys rise
+  row-from : {p : ℕ} {os : List Order} {parts : List Part} {keys : List ℕ} → Row p os parts keys → (m : ℕ) → groupIn m ≡ group → placeIn m < p → Rising m keys
+  row-from (Row.none p) m g l = tt
+  row-from (Row.keep {key = key} a e k h q r) m g l = (omega arith, row-from r key h (omega arith))
+  row-from (Row.drop z r) m g l = row-from r m g (omega arith)
+
+  pub row-rising : {p : ℕ} {os : List Order} {parts : List Part} {keys : List ℕ} → Row p os parts keys → Rising 0 keys
+  row-rising (Row.none p) = tt
+  row-rising (Row.keep {key = key} a e k h q r) = (omega arith, row-from r key h (omega arith))
+  row-rising (Row.drop z r) = row-rising r
+
+  -- What each part gets: a number of it, none where it can get nothing.
+  module _ (f : Part → ℕ) where
+    abbrev Given : List Part → Type 0
+    Given parts = Every (λ q. Idle bound q → f q ≡ 0) parts
+
+    -- what the keys' parts get
+    abbrev gets : List ℕ → List ℕ
+    gets keys = map f (map (partIn at) keys)
+
+    -- the totals are the same
+    pub row-sum : {p : ℕ} {os : List Order} {parts : List Part} {keys : List ℕ} → Row p os parts keys → Given parts → sum (map f parts) ≡ sum (gets keys)
+    row-sum (Row.none p) z = refl
+    row-sum (Row.keep {key = key} a e k g q r) z = rw q (ap (λ n. f (partIn at key) + n) (row-sum r (z .1)))
+    row-sum (Row.drop i r) z = rw (z .0 i, zero-add) (row-sum r (z .1))
+
+    -- each record gets the same
+    pub row-got : {p : ℕ} {os : List Order} {parts : List Part} {keys : List ℕ} → Row p os parts keys → Given parts → (j : ℕ) → j < length os
+        → getD (map f parts) j 0 ≡ gotAt (p + j) keys (gets keys)
+    row-got (Row.none p) z j h = absurd (omega arith)
+    row-got (Row.keep {p = p} {key = key} {keys = keys} a e k g q r) z zero h =
+        rw (eq-eqb (placeIn key) (p + 0) (omega arith), earlier r (p + 0) (omega arith) (gets keys), q) (omega arith)
+    row-got (Row.keep {p = p} {key = key} {keys = keys} a e k g q r) z (suc j) h =
+        let s : p + suc j ≡ suc p + j = omega arith in
+        rw (ne-eqb (placeIn key) (p + suc j) (λ y. omega arith), zero-add, s) (row-got r (z .1) j (omega arith))
+    row-got (Row.drop {p = p} {keys = keys} i r) z zero h = z .0 i ∙ sym (earlier r (p + 0) (omega arith) (gets keys))
+    row-got (Row.drop {p = p} i r) z (suc j) h =
+        let s : p + suc j ≡ suc p + j = omega arith in
+        rw s (row-got r (z .1) j (omega arith))
+
+    -- the executions are the same
+    pub row-executions : {p : ℕ} {os : List Order} {parts : List Part} {keys : List ℕ} → Row p os parts keys → Given parts → Every (λ q. f q < 1048576) parts
+        → executionsBy (paragraphNumber (paragraphOf group)) price os (map f parts) ≡ map (executionOf at) (fillsOf keys (gets keys))
+    row-executions (Row.none p) z l = refl
+    row-executions (Row.keep {p = p} {key = key} {o = o} {os = os} {part = part} {parts = parts} {keys = keys} a e k g q r) z l =
+        rw q (go (ltb 0 n) (row-executions r (z .1) (l .1)))
+      where
+        n : ℕ
+        n = f (partIn at key)
+
+        low : n < 1048576
+        low = rw q at (l .0)
+
+        one : record { number = o .number; price = record { 0 = price }; shares = record { 0 = n }; paragraph = paragraphNumber (paragraphOf group) }
+            ≡ executionOf at (withShares n key)
+        one = rw (with-place n key low, with-group n key low, with-shares n key low, k, g, a, ← e)
+
+        go : (b : Bool) → executionsBy (paragraphNumber (paragraphOf group)) price os (map f parts) ≡ map (executionOf at) (fillsOf keys (gets keys))
+            → consIf b (record { number = o .number; price = record { 0 = price }; shares = record { 0 = n }; paragraph = paragraphNumber (paragraphOf group) })
+            (executionsBy (paragraphNumber (paragraphOf group)) price os (map f parts))
+            ≡ map (executionOf at) (consIf b (withShares n key) (fillsOf keys (gets keys)))
+        go true i = ap₂ _∷_ one i
+        go false i = i
+    row-executions (Row.drop i r) z l = rw (z .0 i) (row-executions r (z .1) (l .1))

@@ -1,0 +1,38 @@
+-- What parts get, kept: the fills, what each record got, how many fills there are, and what is left of the incoming order.
+use Prim.Native.Nat.{ℕ, _+_, _≤_, _<_}
+use mathlib.Core.Path.{_≡_}
+use mathlib.Core.List.{List, _++_}
+use lib.ListN.{length, getD, take}
+use Rattle.units.specs.Lists.{sum}
+use Rattle.units.proofs.Members.{Every}
+use Rattle.matching.specs.Incoming.{executed}
+use Rattle.parts.specs.Key.{placeIn}
+use Rattle.allocation.specs.declared.Progress.{Progress}
+use Rattle.allocation.specs.Walk.{fillsOf, gotAt}
+
+-- How far an incoming order has come, with the lent fills and the lent allotment.
+pub record Ledger : Type 0 where
+  pub progress : Progress
+  pub fills : List ℕ
+  pub allotment : List ℕ
+
+abbrev pub ledger : Progress → List ℕ → List ℕ → Ledger
+ledger p fills allotment = record { progress = p; fills = fills; allotment = allotment }
+
+abbrev pub leftIn : Ledger → ℕ
+leftIn l = l .progress .incoming .size .0
+
+-- There is room for so many parts' fills and an entry for each of their records, and no record got more than was taken.
+pub record Room (keys : List ℕ) (l : Ledger) : Type 0 where
+  pub fills : l .progress .count + length keys ≤ length (l .fills)
+  pub places : Every (λ k. placeIn k < length (l .allotment)) keys
+  pub bounded : (i : ℕ) → getD (l .allotment) i 0 + leftIn l ≤ 999999
+
+-- The second is the first after the parts got these shares.
+pub record Credited (keys gets : List ℕ) (a b : Ledger) : Type 0 where
+  pub left : b .progress .incoming ≡ executed (sum gets) (a .progress .incoming)
+  pub count : b .progress .count ≡ a .progress .count + length (fillsOf keys gets)
+  pub fills : take (b .progress .count) (b .fills) ≡ take (a .progress .count) (a .fills) ++ fillsOf keys gets
+  pub allotment : (i : ℕ) → getD (b .allotment) i 0 ≡ getD (a .allotment) i 0 + gotAt i keys gets
+  pub room : length (b .fills) ≡ length (a .fills)
+  pub records : length (b .allotment) ≡ length (a .allotment)

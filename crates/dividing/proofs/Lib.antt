@@ -1,0 +1,7 @@
+pub mod Walking
+pub mod Places
+pub mod Serving
+pub mod Turning
+pub mod Reciprocal
+pub mod LotSteps
+pub mod SetterPlace

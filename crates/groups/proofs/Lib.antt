@@ -1,4 +1,0 @@
-pub mod Replacing
-pub mod MetParts
-pub mod Sizing
-pub mod Counting

@@ -1,5 +1,0 @@
-pub mod Stretch
-pub mod Allotments
-pub mod Crediting
-pub mod Turns
-pub mod Credited

@@ -1,4 +1,0 @@
-pub mod Ranking
-pub mod Lowest
-pub mod Rising
-pub mod NextLevel

@@ -1,4 +1,0 @@
-pub mod Reachable
-pub mod Whole
-pub mod Thinning
-pub mod Allotting

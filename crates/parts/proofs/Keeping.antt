@@ -1,0 +1,49 @@
+-- Keys that are kept or not: each is written behind those kept so far, and stays there if it passes a test.
+use Prim.Native.Nat.{ℕ, suc, _+_, _≤_, _<_}
+use mathlib.Core.Path.{_≡_}
+use mathlib.Core.Bool.{Bool, true, false}
+use mathlib.Core.List.{List, [], _++_}
+use native.Mathlib.Omega.{arith}
+use native.Mathlib.Numerals.{add-one}
+use native.Mathlib.Nat.{add-zero}
+use lib.ListN.{length, getD, take, drop, set, drop-of-length-le}
+use lib.Seq.{take-suc-set, take-set-le, drop-set-lt, drop-cons, append-snoc}
+use Rattle.units.specs.Lists.{consIf, filter, orZero}
+use Rattle.matching.specs.declared.Algorithm.{Algorithm}
+use Rattle.matching.specs.declared.incoming.Incoming.{Incoming}
+use Rattle.book.specs.Sound.{ordersOf, orderAt}
+use Rattle.book.proofs.Access.{order-here}
+use Rattle.parts.specs.Parts.{partKey, mayMeet, keysFrom}
+
+-- the kept keys, with one more if it passes, and what is to come
+kept-more : (b : Bool) (keys : List ℕ) (count x : ℕ) (rest : List ℕ) → count < length keys
+    → take (count + orZero b 1) (set keys count x) ++ rest ≡ take count keys ++ consIf b x rest
+kept-more true keys count x rest h = rw (add-one, take-suc-set keys count x h) (append-snoc (take count keys) x rest)
+kept-more false keys count x rest h = rw (add-zero count, take-set-le count keys count x (omega arith))
+
+-- where the keys themselves are written over: those behind stay as they were
+pub filter-more : (p : ℕ → Bool) (keys : List ℕ) (count k : ℕ) → count ≤ k → k < length keys
+    → take (count + orZero (p (getD keys k 0)) 1) (set keys count (getD keys k 0)) ++ filter p (drop (k + 1) (set keys count (getD keys k 0)))
+    ≡ take count keys ++ filter p (drop k keys)
+filter-more p keys count k h l =
+    let x = getD keys k 0 in
+    rw (drop-set-lt (k + 1) keys count x (omega arith), add-one k, drop-cons keys k 0 l)
+    (kept-more (p x) keys count x (filter p (drop (suc k) keys)) (omega arith))
+
+-- The parts of a book's orders, from record i on.
+module _ (lot : ℕ) (alg : Algorithm) (incoming : Incoming) (s : List ℕ) (i : ℕ) where
+  -- one record more is read, and its part is kept if the incoming order may meet it
+  pub parts-more : i < length (ordersOf s) → (keys : List ℕ) (count key : ℕ) (b : Bool) → count < length keys
+      → b ≡ mayMeet incoming (orderAt s i) → key ≡ partKey lot alg (incoming .taker .side) i (orderAt s i)
+      → take (count + orZero b 1) (set keys count key) ++ keysFrom lot alg incoming (i + 1) (drop (i + 1) (ordersOf s))
+      ≡ take count keys ++ keysFrom lot alg incoming i (drop i (ordersOf s))
+  unfolding keysFrom
+  parts-more h keys count key b l p q =
+      let part = partKey lot alg (incoming .taker .side) i (orderAt s i) in
+      let rest = keysFrom lot alg incoming (suc i) (drop (suc i) (ordersOf s)) in
+      rw (p, q, add-one i, order-here s i h) (kept-more (mayMeet incoming (orderAt s i)) keys count part rest l)
+
+  -- every record was read
+  pub parts-done : length (ordersOf s) ≤ i → keysFrom lot alg incoming i (drop i (ordersOf s)) ≡ []
+  unfolding keysFrom
+  parts-done h = rw (drop-of-length-le (ordersOf s) h)

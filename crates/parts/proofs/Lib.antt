@@ -1,0 +1,7 @@
+pub mod Keys
+pub mod Paragraphs
+pub mod Table
+pub mod Reading
+pub mod Keeping
+pub mod Narrowing
+pub mod Arranging

@@ -1,0 +1,163 @@
+-- Worked values of keys, of the parts of orders, and of those that are needed, computed by the checker.
+use Prim.Native.Nat.{ℕ, zero, suc}
+use mathlib.Core.Path.{_≡_, refl}
+use mathlib.Core.Bool.{Bool, true, false, not}
+use mathlib.Core.List.{List, [], _∷_}
+use native.Mathlib.Omega.{arith}
+use lib.ListN.{length}
+use lib.Dec.{eqb}
+use Rattle.units.specs.Lists.{all as allOf, sameNumbers}
+use Rattle.orders.specs.declared.order.Side.{Side}
+use Rattle.orders.specs.declared.order.Side.the-variants.{Buy, Sell}
+use Rattle.orders.specs.declared.order.Kind.{Kind}
+use Rattle.orders.specs.declared.order.Kind.the-variants.{Displayed, NonDisplayed, MinimumQuantity}
+use Rattle.orders.specs.declared.order.Order.{Order}
+use Rattle.matching.specs.declared.Algorithm.the-variants.{PriceTime, ProRata, PriceSetter}
+use Rattle.matching.specs.declared.incoming.Incoming.{Incoming}
+use Rattle.parts.specs.Key.{keyOf, rankIn, groupIn, paragraphIn, placeIn, sharesIn, withShares}
+use Rattle.parts.specs.Parts.{rankOn, proRataPlace, paragraphPlace, partKey, mayMeet, keysFrom}
+use Rattle.parts.specs.Narrowed.{minimumPlace, ofRank, freeShares, Narrowed, all, best}
+
+keys : List Bool
+keys =
+    -- each of the four in its place
+    eqb (keyOf 1 0 0 0) 4294967296 ∷
+    eqb (keyOf 0 1 0 0) 536870912 ∷
+    eqb (keyOf 0 0 1 0) 1048576 ∷
+    eqb (keyOf 0 0 0 1) 1 ∷
+    eqb (keyOf 3 5 300 999999) 15884829247 ∷
+    -- and read back
+    eqb (rankIn 15884829247) 3 ∷
+    eqb (groupIn 15884829247) 29 ∷
+    eqb (paragraphIn 29) 5 ∷
+    eqb (placeIn 15884829247) 300 ∷
+    eqb (sharesIn 15884829247) 999999 ∷
+    -- the highest that stand beside a rank, and the lowest
+    eqb (keyOf 0 7 511 1048575) 4294967295 ∷
+    eqb (rankIn 4294967295) 0 ∷
+    eqb (groupIn 4294967295) 7 ∷
+    eqb (placeIn 4294967295) 511 ∷
+    eqb (sharesIn 4294967295) 1048575 ∷
+    eqb (rankIn 4294967296) 1 ∷
+    eqb (paragraphIn (groupIn 4294967296)) 0 ∷
+    eqb (placeIn 4294967296) 0 ∷
+    eqb (sharesIn 4294967296) 0 ∷
+    -- the same part with 7 shares
+    eqb (withShares 7 15884829247) 15883829255 ∷ []
+
+keys-worked : allOf (λ b. b) keys ≡ true
+unfolding keys
+keys-worked = refl
+
+least : ℕ → Kind
+least m = MinimumQuantity (record { 0 = m })
+
+order : Side → Kind → ℕ → ℕ → Order
+order side kind price size = record {
+  side = side;
+  kind = kind;
+  number = 1;
+  price = record { 0 = price };
+  size = record { 0 = size };
+  setter = false;
+}
+
+-- 300 shares come in
+incoming : Side → ℕ → Incoming
+incoming side limit = record { taker = record { side = side; limit = record { 0 = limit } }; size = record { 0 = 300 } }
+
+places : List Bool
+places =
+    -- the lower price is the better for a buy, the higher for a sell
+    eqb (rankOn Buy 100100) 100100 ∷
+    eqb (rankOn Sell 100100) 4294867195 ∷
+    -- under pro rata: displayed shares of a lot and below one, non-displayed ones, and those with a minimum
+    eqb (proRataPlace 100 Displayed 100) 0 ∷
+    eqb (proRataPlace 100 Displayed 99) 1 ∷
+    eqb (proRataPlace 100 NonDisplayed 100) 2 ∷
+    eqb (proRataPlace 100 NonDisplayed 99) 4 ∷
+    eqb (proRataPlace 100 (least 50) 100) 3 ∷
+    eqb (proRataPlace 100 (least 50) 99) 3 ∷
+    eqb (proRataPlace 7 Displayed 7) 0 ∷
+    -- under price/time: displayed shares, and all others
+    eqb (paragraphPlace 100 PriceTime Displayed 99) 0 ∷
+    eqb (paragraphPlace 100 PriceTime NonDisplayed 100) 1 ∷
+    eqb (paragraphPlace 100 PriceTime (least 50) 100) 1 ∷
+    -- under the other two as under pro rata
+    eqb (paragraphPlace 100 ProRata Displayed 99) 1 ∷
+    eqb (paragraphPlace 100 ProRata NonDisplayed 99) 4 ∷
+    eqb (paragraphPlace 100 PriceSetter Displayed 99) 1 ∷
+    eqb (paragraphPlace 100 PriceSetter (least 50) 99) 3 ∷ []
+
+places-worked : allOf (λ b. b) places ≡ true
+unfolding places least
+places-worked = refl
+
+-- a displayed sell, a non-displayed one below a lot at the limit, a buy, a sell above the limit, a minimum that is just met, and one that isn't
+orders : List Order
+orders =
+    order Sell Displayed 100000 250 ∷
+    order Sell NonDisplayed 100100 50 ∷
+    order Buy Displayed 100000 100 ∷
+    order Sell Displayed 100101 100 ∷
+    order Sell (least 300) 100050 400 ∷
+    order Sell (least 301) 100050 400 ∷ []
+
+parts : List Bool
+parts =
+    eqb (partKey 100 ProRata Buy 5 (order Sell NonDisplayed 100100 50)) (keyOf 100100 4 5 50) ∷
+    eqb (partKey 50 ProRata Buy 5 (order Sell NonDisplayed 100100 50)) (keyOf 100100 2 5 50) ∷
+    eqb (partKey 100 PriceTime Sell 5 (order Buy NonDisplayed 100100 50)) (keyOf 4294867195 1 5 50) ∷
+    -- whom a sell may meet: the other side, at or above the limit, with a minimum of 300 at most
+    mayMeet (incoming Sell 100100) (order Buy Displayed 100100 50) ∷
+    mayMeet (incoming Sell 100100) (order Buy (least 300) 100200 400) ∷
+    not (mayMeet (incoming Sell 100100) (order Sell Displayed 100100 50)) ∷
+    not (mayMeet (incoming Sell 100100) (order Buy Displayed 100099 50)) ∷
+    not (mayMeet (incoming Sell 100100) (order Buy (least 301) 100200 400)) ∷
+    -- the parts that a buy may meet, each with the place of its record
+    sameNumbers (keysFrom 100 ProRata (incoming Buy 100100) 0 orders) (keyOf 100000 0 0 250 ∷ keyOf 100100 4 1 50 ∷ keyOf 100050 3 4 400 ∷ []) ∷
+    sameNumbers (keysFrom 100 PriceTime (incoming Buy 100000) 7 orders) (keyOf 100000 0 7 250 ∷ []) ∷
+    sameNumbers (keysFrom 100 PriceTime (incoming Sell 1) 0 orders) (keyOf 4294867295 0 2 100 ∷ []) ∷
+    sameNumbers (keysFrom 100 PriceTime (incoming Buy 100100) 0 []) [] ∷ []
+
+parts-worked : allOf (λ b. b) parts ≡ true
+unfolding parts orders order least incoming keysFrom
+parts-worked = refl
+
+free : List Bool
+free =
+    eqb (minimumPlace PriceTime) 1 ∷
+    eqb (minimumPlace ProRata) 3 ∷
+    eqb (minimumPlace PriceSetter) 3 ∷
+    ofRank 4 (keyOf 4 1 2 50) ∷
+    not (ofRank 3 (keyOf 4 1 2 50)) ∷
+    -- of the rank, in another paragraph's group than those with a minimum
+    eqb (freeShares ProRata 4 (keyOf 4 1 2 50)) 50 ∷
+    eqb (freeShares PriceTime 4 (keyOf 4 1 2 50)) 0 ∷
+    eqb (freeShares PriceSetter 4 (keyOf 4 3 2 50)) 0 ∷
+    eqb (freeShares PriceTime 4 (keyOf 4 3 2 50)) 50 ∷
+    eqb (freeShares ProRata 3 (keyOf 4 1 2 50)) 0 ∷ []
+
+free-worked : allOf (λ b. b) free ≡ true
+unfolding free
+free-worked = refl
+
+-- 100 shares at the best price, without a minimum, and 200 at the next
+two : List ℕ
+two = keyOf 0 0 0 100 ∷ keyOf 1 0 1 200 ∷ []
+
+-- they are enough for 100
+enough : Narrowed ProRata 100 two (keyOf 0 0 0 100 ∷ [])
+unfolding two
+enough = best 0 (omega arith, (omega arith, tt)) (omega arith)
+
+-- none need be left out
+whole : Narrowed ProRata 100 two two
+whole = all
+
+-- for 101 they aren't, and those of the next price, which would be, aren't the best: none is left out
+too-few : (needed : List ℕ) → Narrowed ProRata 101 two needed → length needed ≡ 2
+unfolding two
+too-few needed all = refl
+too-few needed (best zero e h) = absurd (omega arith)
+too-few needed (best (suc rank) e h) = let l = e .0 in absurd (omega arith)

@@ -1,0 +1,5 @@
+pub mod Key
+pub mod Parts
+pub mod Narrowed
+pub mod Arranged
+pub mod Examples

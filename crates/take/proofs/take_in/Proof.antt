@@ -1,0 +1,159 @@
+-- `take::take_in` meets its contract: what was allocated is the outcome, refused where it has no room, and else written.
+use Prim.Native.Nat.{ℕ, _/_, _≤_}
+use mathlib.Core.Path.{_≡_, sym, ap, _∙_}
+use mathlib.Core.List.{List}
+use native.Mathlib.Omega.{arith}
+use borrow.Author.Needs.{needs}
+use lib.ListN.{length, take}
+use lib.Seq.{length-take-le}
+use Rattle.record.proofs.Numbers.{are-bytes}
+use Rattle.book.specs.Sound.{ordersOf, bookOf, capacityOf}
+use Rattle.book.proofs.Checking.{sound-fits}
+use Rattle.parts.specs.Arranged.{Arranged}
+use Rattle.allocation.specs.Credit.{Ledger, ledger}
+use Rattle.take.proofs.Answers.{refused-room, accepted}
+use Rattle.take.proofs.Deciding.{arranged-book, arranged-room, Decided, decided}
+use Rattle.take.proofs.Idle.{idle}
+use Rattle.take.proofs.take_in.Statement.{statement}
+use Rattle.take.proofs.take_in.Tie as tie
+
+-- Once the parts are in their order.
+module _ (p : tie.After-arrange) where
+  abbrev lot : tie.After-round-lot
+  lot = p .before .before .before .before
+
+  abbrev alg : tie.After-of
+  alg = lot .before
+
+  abbrev order : tie.After-incoming-of
+  order = alg .before
+
+  abbrev s : tie.Start
+  s = order .before .before .before .before .before .before .before .before .before
+
+  abbrev keys : List ℕ
+  keys = take (p .arrange .result) (p .arrange .last .1 .1 .1 .1 .1 .0)
+
+  arranged : Arranged (lot .round-lot .result .0) (alg .of .result) (order .incoming-of .result) (ordersOf (s .args .book .now)) keys
+  arranged = p .arrange .ensures .1
+
+  within : p .arrange .result ≤ length (p .arrange .last .1 .1 .1 .1 .1 .0)
+  within = omega (arith, p .arrange .ensures .0, p .arrange .kept .1 .1 .1 .1 .1 .0, s .pre .1 .keysLong)
+
+  long : length keys ≡ p .arrange .result
+  long = length-take-le (p .arrange .result) (p .arrange .last .1 .1 .1 .1 .1 .0) within
+
+  few : length keys ≤ 512
+  few = let f = sound-fits (s .args .book .now) (s .pre .0 .isSound) in omega (arith, long, p .arrange .ensures .0, s .pre .0 .counted)
+
+returns : tie.Need-returns
+returns c =
+    let p = c .before .before .before .before .before in
+    let a = s p .args in
+    let g = s p .pre .0 in
+    let b = are-bytes (a .book .now) (λ k. omega (arith, order p .before .before .before .before .before .before .before .before .slice-known .given k)) in
+    idle (a .request) (a .book .now) (a .executions .now) (g .inRange) (g .isSound) b (order p .incoming-of .ensures) (alg p .of .ensures) (lot p .round-lot .ensures) (arranged p)
+    (rw (c .if1 .taken))
+
+allocate-requires : tie.Need-allocate-requires
+allocate-requires c κs =
+    let p = c .before .before .before .before .before .before .before .before .before .before .before .before in
+    let a = s p .args in
+    let g = s p .pre .0 in
+    let m = s p .pre .1 in
+    let n = p .arrange .ensures .0 in (
+      arranged-book (a .request) (a .book .now) (g .inRange) (g .isSound) (order p .incoming-of .ensures) (alg p .of .ensures) (lot p .round-lot .ensures) (arranged p) (few p),
+      record {
+        sizesLong = omega (arith, long p, n, m .sizesLong);
+        minimumsLong = omega (arith, long p, n, m .minimumsLong);
+        getsLong = omega (arith, long p, n, m .getsLong);
+      },
+      arranged-room (a .request) (a .book .now) (g .inRange) (g .isSound) (order p .incoming-of .ensures) (alg p .of .ensures) (lot p .round-lot .ensures) (arranged p) (few p)
+          (omega (arith, long p, n, m .spareLong, p .arrange .kept .1 .1 .1 .1 .1 .1 .0)) (omega (arith, g .counted, m .allotmentLong)) (m .nothing),
+    )
+
+-- Once they got their shares.
+module _ (d : tie.After-allocate) where
+  abbrev p : tie.After-arrange
+  p = d .before .before .before .before .before .before .before .before .before .before .before .before .before
+
+  abbrev st : tie.Start
+  st = s p
+
+  -- how far the order has come
+  abbrev end : Ledger
+  end = ledger (d .allocate .result) (d .allocate .last .1 .1 .1 .1 .1 .1 .1 .1 .0) (d .allocate .last .1 .1 .1 .1 .1 .1 .1 .1 .1 .0)
+
+  room : length (ordersOf (st .args .book .now)) ≤ length (end .allotment)
+  room = omega (arith, st .pre .0 .counted, st .pre .1 .allotmentLong, d .allocate .kept .1 .1 .1 .1 .1 .1 .1 .1 .1 .0)
+
+  done : Decided (st .args .request) (st .args .book .now) end
+  done =
+      let a = st .args in
+      let g = st .pre .0 in
+      decided (a .request) (a .book .now) (g .inRange) (g .isSound) (order p .incoming-of .ensures) (alg p .of .ensures) (lot p .round-lot .ensures) (arranged p) (few p)
+      {end = end} (st .pre .1 .nothing) room (d .allocate .ensures)
+
+returns-2 : tie.Need-returns-2
+returns-2 c =
+    let d = c .before .before .before .before .before .before .before .before .before .before .before .before in
+    let a = st d .args in
+    let g = st d .pre .0 in
+    rw (c .refused .ensures)
+    (refused-room (a .request) (a .book .now) (a .executions .now) (g .inRange) (g .isSound) (omega (arith, done d .count, c .before .if2 .taken)))
+
+slice-aggregate-allocate : tie.Need-slice-aggregate-allocate
+slice-aggregate-allocate c = sym (long (c .before .before .before .before .before .before .before))
+
+-- the executions have room in the buffer
+has-room : (e : tie.Else2) → let d = e .before .before .before .before .before .before .before .before .before .before .before in end d .progress .count ≤ length (st d .args .executions .now) / 16
+has-room e = e .if2 .left
+
+write-requires : tie.Need-write-requires
+write-requires c κs =
+    let e = c .before .before .before .before .before in
+    let d = e .before .before .before .before .before .before .before .before .before .before .before in
+    let a = st d .args in
+    let g = st d .pre .0 in (
+      g .isSound,
+      done d .places,
+      omega (arith, length-take-le (end d .progress .count) (end d .fills) (done d .fits), has-room e),
+    )
+
+settle-requires : tie.Need-settle-requires
+settle-requires c κs =
+    let d = c .before .before .before .before .before .before .before .before .before .before .before .before .before .before .before .before .before .before .before .before .before in
+    let g = st d .pre .0 in
+    (g .isSound, g .counted, omega (arith, g .counted, room d), omega (arith, g .counted, room d))
+
+cast : tie.Need-cast-t55
+cast c =
+    let d = c .before .before .before .before .before .before .before .before .before .before .before .before .before .before .before .before .before .before .before .before .before .before .before .before in
+    omega (arith, done d .few)
+
+returns-3 : tie.Need-returns-3
+returns-3 c =
+    let t = c .before .before in
+    let w = t .before .before .before .before .before in
+    let d = w .before .before .before .before .before .before .before .before .before .before .before .before .before .before .before .before .before in
+    let a = st d .args in
+    let g = st d .pre .0 in
+    accepted (a .request) (a .book .now) (a .executions .now) (g .inRange) (g .isSound) (done d .count)
+    (done d .left)
+    (t .settle .ensures ∙ ap (bookOf (capacityOf (a .book .now))) (done d .orders (a .n) (g .counted)))
+    (w .write .ensures ∙ done d .written (a .executions .now))
+    (omega (arith, has-room (w .before .before .before .before .before .before)))
+
+pub take-in-spec : {M : Type 1} → statement M
+take-in-spec =
+    tie.close
+    (tie.spec
+    (λ c κs. search needs) (λ c κs. search needs) (λ c κs. search needs) (λ c κs. search needs)
+    (λ c. search needs) (λ c. search needs) (λ c. search needs) returns (λ c. search needs) slice-aggregate-allocate
+    allocate-requires (λ c κs. search needs)
+    (λ c. search needs) (λ c. search needs) (λ c. search needs) (λ c. search needs) (λ c. search needs) (λ c. search needs) (λ c. search needs) returns-2
+    (λ c. done (c .before .before .before .before .before .before .before .before .before .before .before .before .before .before) .fits) (λ c. sym (length-take-le _ _ (done (c .before .before .before .before .before .before .before .before .before .before .before .before .before .before .before) .fits))) write-requires settle-requires cast
+    (λ c. search needs) (λ c. search needs)
+    (λ c. c .before .before .before .before .before .before .before .before .before .before .before .before .before .before .before .before .before .before .before .before .before .before .before .before .before .before .before .before .before .before .before .before .before .before .before .before .before .arrange .kept .1 .1 .1 .1 .1 .0)
+    (λ c. c .before .before .before .before .before .before .before .before .before .before .before .before .before .before .before .before .before .before .before .before .before .before .before .before .allocate .kept .1 .1 .1 .1 .1 .1 .1 .1 .0 ∙ c .before .before .before .before .before .before .before .before .before .before .before .before .before .before .before .before .before .before .before .before .before .before .before .before .before .before .before .before .before .before .before .before .before .before .before .before .before .arrange .kept .1 .1 .1 .1 .1 .1 .0)
+    (λ c. search needs) (λ c. search needs) (λ c. search needs) (λ c. search needs) returns-3)
