@@ -29,6 +29,11 @@ _Static_assert(sizeof(ruhvasto_taken) == 12, "size of ruhvasto_taken");
 AT(ruhvasto_taken, refusal, 0);
 AT(ruhvasto_taken, count, 4);
 AT(ruhvasto_taken, left, 8);
+_Static_assert(sizeof(ruhvasto_execution) == 16, "size of ruhvasto_execution");
+AT(ruhvasto_execution, number, 0);
+AT(ruhvasto_execution, price, 4);
+AT(ruhvasto_execution, shares, 8);
+AT(ruhvasto_execution, paragraph, 12);
 _Static_assert(RUHVASTO_BOOK_BYTES == RUHVASTO_BOOK_ORDERS * RUHVASTO_RECORD_BYTES, "the largest book");
 _Static_assert(RUHVASTO_EXECUTIONS_BYTES == RUHVASTO_BOOK_ORDERS * RUHVASTO_EXECUTION_BYTES, "the most executions");
 
@@ -150,9 +155,49 @@ static void layouts(void)
     EXPECT(executions[0] == 0xee && ruhvasto_order_at(book).size == RUHVASTO_ROUND_LOT);
     EXPECT(take(RUHVASTO_EXECUTION_BYTES, 60, RUHVASTO_PRICE_TIME).count == 1);
     execution = ruhvasto_execution_at(executions);
-    EXPECT(executions[0] == 0x45 && executions[1] == 0x58 && executions[2] == 0 && executions[3] == 0);
-    EXPECT(execution.number == 0x01020304 && execution.price == 100000 && execution.shares == 60);
+    EXPECT(executions[0] == 0x45 && executions[1] == 0x58 && executions[2] == 2 && executions[3] == 0);
+    EXPECT(execution.number == 0x01020304 && execution.price == 100000 && execution.shares == 60 && execution.paragraph == 2);
     EXPECT(executions[RUHVASTO_EXECUTION_BYTES] == 0xee && ruhvasto_order_at(book).size == RUHVASTO_ROUND_LOT - 60);
+}
+
+/* A sell for each paragraph of pro rata, in their order, at one price; numbered from 1. */
+static const struct {
+    uint32_t kind, size, minimum;
+} sells[] = { { RUHVASTO_DISPLAYED, 300, 0 },
+              { RUHVASTO_DISPLAYED, 40, 0 },
+              { RUHVASTO_NON_DISPLAYED, 200, 0 },
+              { RUHVASTO_MINIMUM_QUANTITY, 100, 50 },
+              { RUHVASTO_NON_DISPLAYED, 30, 0 } };
+enum { SELLS = sizeof sells / sizeof *sells };
+
+static void add_sells(void)
+{
+    clear();
+    for (uint32_t i = 0; i < SELLS; i++)
+        EXPECT(ruhvasto_add(book, SELLS * RUHVASTO_RECORD_BYTES, (ruhvasto_add_request){
+            .side = RUHVASTO_SELL, .kind = sells[i].kind, .number = i + 1, .price = 100000, .size = sells[i].size,
+            .minimum = sells[i].minimum }) == RUHVASTO_ACCEPTED);
+}
+
+/* All of them filled under an algorithm: the executions name these paragraphs. */
+static void named(uint32_t algorithm, const uint8_t expected[SELLS])
+{
+    add_sells();
+    ruhvasto_taken taken = take_from(SELLS * RUHVASTO_RECORD_BYTES, RUHVASTO_EXECUTIONS_BYTES, 670, algorithm);
+    EXPECT(taken.refusal == RUHVASTO_ACCEPTED && taken.count == SELLS && taken.left == 0);
+    for (uint32_t i = 0; i < SELLS; i++) {
+        const uint8_t *bytes = executions + i * RUHVASTO_EXECUTION_BYTES;
+        const ruhvasto_execution execution = ruhvasto_execution_at(bytes);
+        EXPECT(execution.number == i + 1 && execution.price == 100000 && execution.shares == sells[i].size);
+        EXPECT(bytes[2] == expected[i] && bytes[3] == 0 && execution.paragraph == expected[i]);
+    }
+}
+
+static void paragraphs(void)
+{
+    named(RUHVASTO_PRICE_TIME, (const uint8_t[]){ 2, 2, 3, 3, 3 });
+    named(RUHVASTO_PRO_RATA, (const uint8_t[]){ 2, 3, 4, 5, 6 });
+    named(RUHVASTO_PRO_RATA_SETTER, (const uint8_t[]){ 2, 3, 4, 5, 6 });
 }
 
 static void refusals(void)
@@ -231,6 +276,7 @@ int main(void)
     ranges();
     lengths();
     layouts();
+    paragraphs();
     refusals();
     names();
     orders();

@@ -44,10 +44,10 @@ extern "C" {
 #endif
 
 /* The version of this interface. It rises with every change that a caller can notice. */
-#define RUHVASTO_VERSION 2
+#define RUHVASTO_VERSION 3
 
 /* The last change request that the library has; 0 is the base, without any. */
-#define RUHVASTO_REQUESTS 0
+#define RUHVASTO_REQUESTS 1
 
 /* Bytes of stack that are enough for take, and for every other call. */
 #define RUHVASTO_TAKE_STACK_BYTES 16000
@@ -79,10 +79,22 @@ extern "C" {
 /* AN EXECUTION has 16 bytes, and the same order of bytes in a number.
  *
  *   byte 0, 1     the mark 45 58 hex
- *   byte 2, 3     zero
+ *   byte 2        the paragraph of the rule that gave the shares: 2 or 3 under price/time, 2 to 6 under pro rata and under its variation
+ *   byte 3        zero
  *   byte 4 to 7   the order number of the resting order
  *   byte 8 to 11  its price, at which the shares are traded
  *   byte 12 to 15 the shares, 1 to 999,999
+ *
+ * Which orders each paragraph fills, by kind and by size before the take:
+ *
+ *      price/time                          pro rata, and its variation
+ *   2  displayed                           displayed, a round lot or more
+ *   3  non-displayed and minimum quantity  displayed, below a round lot
+ *   4                                      non-displayed, a round lot or more
+ *   5                                      minimum quantity, of any size
+ *   6                                      non-displayed, below a round lot
+ *
+ * An execution doesn't say under which algorithm it came: whoever keeps executions writes that beside them.
  *
  * A take has at most one execution for each order of the book, so a buffer of 4,096 bytes is never too small. */
 #define RUHVASTO_EXECUTION_BYTES 16
@@ -261,7 +273,7 @@ RUHVASTO_NO_NULL static inline uint32_t ruhvasto_highest_number(const uint8_t *b
 
 /* The fields of an execution. */
 typedef struct {
-    uint32_t number, price, shares;
+    uint32_t number, price, shares, paragraph;
 } ruhvasto_execution;
 
 /* Of the 16 bytes of an execution. */
@@ -271,6 +283,7 @@ RUHVASTO_NO_NULL static inline ruhvasto_execution ruhvasto_execution_at(const ui
     execution.number = ruhvasto_number_at(bytes + 4);
     execution.price = ruhvasto_number_at(bytes + 8);
     execution.shares = ruhvasto_number_at(bytes + 12);
+    execution.paragraph = bytes[2];
     return execution;
 }
 

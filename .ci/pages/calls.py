@@ -1,7 +1,7 @@
 """docs/CALLS.md: the tables of calls, and the cases by hand."""
 import re
 
-from pages.library import CALLS, Wrong, answer, executions_in, fillsheet, listed, orders_in, sheet_of, traded
+from pages.library import CALLS, Take, Wrong, answer, executions_in, fillsheet, listed, orders_in, sheet_of, traded
 from pages.markdown import codes, figures, number, read
 from pages.page import Page, tried, values_in
 
@@ -132,6 +132,16 @@ class Calls(Page):
         true = [[[2], [], [lot, 3]], [[3], [], [lot]], [[4], [], [lot]], [[5], [], []], [[6], [], [lot]]]
         for (line, row), numbers in zip(rows, true, strict=True):
             self.hold(line, [figures(cell) for cell in row], numbers)
+        for algorithm, column in (1, 1), (2, 2), (3, 2):
+            self.named(rows[0][0], [(number(row[0]), row[column]) for _, row in rows], algorithm)
+
+    # Of each kind an order of a lot, and one below it: its execution names the one paragraph whose group it is in.
+    def named(self, line, groups, algorithm):
+        lot = self.header["ROUND_LOT"]
+        book = self.library.book(", ".join(f"D {n}, H {n}, M {n}/1" for n in (lot, lot - 1)))
+        executions = self.library.take(book, Take(1, 100000, 6 * lot, algorithm))[1]
+        said = [[paragraph for paragraph, cell in groups if is_in(o, cell)] for o in orders_in(book)]
+        self.hold(line, said, [[e.paragraph] for e in sorted(executions)])
 
     # The orders that the take may trade with; in a case by hand they are at one price.
     def opposite(self):
@@ -158,6 +168,8 @@ class Calls(Page):
         else:
             group, divided = [o for o in group if not o.setter], divided - self.guarantee
         self.hold(rows[0][0], [number(total), number(shares)], [sum(o.size for o in group), divided])
+        named = {str(e.paragraph) for e in self.library.take(self.start, self.takes[0])[1]}
+        self.hold(rows[0][0], set(re.findall(r"in paragraph (\d)", self.before)) <= named, True)
         steps = lot_sharing(divided, group, self.header["ROUND_LOT"])
         for (line, row), o in zip(rows, group, strict=True):
             tenths, first, rest, second = steps[o.number]
@@ -193,12 +205,15 @@ class Calls(Page):
     def printed(self, line, lines):
         self.hold(line, lines, fillsheet(sheet_of(self.start, self.takes[0])))
 
+    # The paragraph is the one that the execution names; where there is none, that of the order's turn.
     def turns(self, rows):
         true = []
         for take in self.takes:
-            left, gets = take.size, self.library.take(self.start, take)[0]
+            gets, executions, _, _ = self.library.take(self.start, take)
+            left, named = take.size, {e.number: e.paragraph for e in executions}
             for o in sorted(self.opposite(), key=lambda o: turn(o, take.algorithm)):
-                true.append([f"{n:,}" for n in (take.algorithm, turn(o, take.algorithm)[0], o.number, o.minimum, left, gets[o.number])])
+                paragraph = named.get(o.number, turn(o, take.algorithm)[0])
+                true.append([f"{n:,}" for n in (take.algorithm, paragraph, o.number, o.minimum, left, gets[o.number])])
                 left -= gets[o.number]
         for (line, row), words in zip(rows, true, strict=True):
             self.hold(line, row, words)
@@ -214,6 +229,14 @@ def lot_sharing(shares, orders, lot):
         steps[o.number] = (o.size * shares * 10 // total, first[o.number], rest, second)
         rest -= second
     return steps
+
+
+# Whether an order is in the group of a cell of the table of paragraphs: 'non-displayed, 100 or more: lot sharing'.
+def is_in(order, cell):
+    kinds = re.match(r"[a-z -]*", cell)[0].removesuffix(" together").split(" and ")
+    least, below = re.search(r"(\d+)(?: shares)? or more", cell), re.search(r"below (\d+)", cell)
+    return (("displayed", "non-displayed", "minimum quantity")[order.kind - 1] in kinds
+            and (not least or order.size >= int(least[1])) and (not below or order.size < int(below[1])))
 
 
 # The paragraph that an order stands in, and its turn in it; under pro rata for orders that share in turn.

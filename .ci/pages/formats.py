@@ -1,7 +1,7 @@
 """docs/FORMATS.md: limits, layouts, dumps and sheets."""
 import re
 
-from pages.library import Execution, answer, dump, executions_in, fillsheet, is_longest_sheet, orders_in, traded
+from pages.library import Execution, Take, answer, dump, executions_in, fillsheet, is_longest_sheet, orders_in, traded
 from pages.markdown import codes, figures, number, read
 from pages.page import Page, tried, values_in
 
@@ -18,7 +18,7 @@ class Formats(Page):
         "number | when": "printable",
         "line | printed | why": "lines",
     }
-    has = {"limits": 1, "layout": 2, "dump": 4, "fields": 1, "grammar": 2, "commands": 1, "printable": 1, "sheet": 1, "printed": 1, "lines": 1}
+    has = {"limits": 1, "layout": 2, "dump": 5, "fields": 1, "grammar": 2, "commands": 1, "printable": 1, "sheet": 1, "printed": 1, "lines": 1}
     prose = ("why", "meaning")
     given = ("line",)
 
@@ -36,7 +36,9 @@ class Formats(Page):
             "order number": [1, 4294967295], "price, limit price": [1, h["PRICE_MOST"]], "size, shares of a reduce": [1, h["SIZE_MOST"]],
             "minimum, kind 3": [1], "minimum, kinds 1 and 2": [0, 0], "bytes of an execution": [h["EXECUTION_BYTES"]] * 2,
             "bytes of an execution buffer": [0, h["EXECUTIONS_BYTES"]],
-            "executions of one take": [0, h["EXECUTIONS_BYTES"] // h["EXECUTION_BYTES"]], "shares of an execution": [1, h["SIZE_MOST"]],
+            "executions of one take": [0, h["EXECUTIONS_BYTES"] // h["EXECUTION_BYTES"]],
+            "paragraph of an execution": [min(self.named(2)), max(self.named(2)), max(self.named(1)), 1],
+            "shares of an execution": [1, h["SIZE_MOST"]],
             "bytes of a sheet for `fillsheet`": [0, 65536],
         }
         for (line, row), (what, numbers) in zip(rows, true.items(), strict=True):
@@ -55,13 +57,24 @@ class Formats(Page):
             (self.execution_field if executions else self.record_field)(line, first, int(width), field, values)
         self.hold(rows[-1][0], at, self.header["EXECUTION_BYTES" if executions else "RECORD_BYTES"])
 
+    # The paragraphs that executions name, where a take fills an order for each.
+    def named(self, algorithm):
+        book = self.library.book("D 300, D 40, H 200, M 100/50, H 30")
+        return {e.paragraph for e in self.library.take(book, Take(1, 100000, 670, algorithm))[1]}
+
     def execution_field(self, line, first, width, field, values):
         _, _, buffer = self.library.call("take", self.library.book("D 600 at 4660"), 1, 4660, 500, 2, executions=bytes([255] * 16))
-        true = {0: ("mark", buffer[:2].hex(" ").upper() + " hex"), 2: ("none", "zero"), 4: ("order number of the resting order", "as in its record"),
+        true = {0: ("mark", buffer[:2].hex(" ").upper() + " hex"), 2: ("paragraph of the rule that gave the shares", values),
+                3: ("none", "zero"), 4: ("order number of the resting order", "as in its record"),
                 8: ("price of the resting order, at which the shares are traded", "as in its record"),
                 12: ("shares", f"1 to {self.header['SIZE_MOST']:,}")}[first]
         self.hold(line, (field, values), true)
-        self.hold(line, [buffer[2:4], *executions_in(1, buffer)], [bytes(2), Execution(1, 4660, 500)])
+        self.hold(line, [buffer[3], *executions_in(1, buffer)], [0, Execution(1, 4660, 500, 2)])
+        if first == 2:
+            said = re.fullmatch(r"(\d) or (\d) under algorithm 1, (\d) to (\d) under algorithms 2 and 3", values)
+            one, other, least, most = map(int, said.groups())
+            pro_rata = set(range(least, most + 1))
+            self.hold(line, [{one, other}, pro_rata, pro_rata], [self.named(1), self.named(2), self.named(3)])
 
     # What check takes for sound at this place, at the ends of the values and right outside.
     def record_field(self, line, first, width, field, values):

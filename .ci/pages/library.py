@@ -15,7 +15,7 @@ ORDER = re.compile(r"(?:(buy|sell) )?([DHM]) ([\d,]+)(?:/([\d,]+))?(?: at (\d+))
 TAKE = re.compile(r"(buy|sell) ([\d,]+)(?: at (\d+))?, algorithms? (\d)(?: and (\d))?$")
 
 Order = collections.namedtuple("Order", "side kind number price size minimum setter")
-Execution = collections.namedtuple("Execution", "number price shares")
+Execution = collections.namedtuple("Execution", "number price shares paragraph")
 Take = collections.namedtuple("Take", "side limit size algorithm")
 
 
@@ -126,7 +126,8 @@ def orders_in(book):
 
 
 def executions_in(count, buffer):
-    return [Execution(*numbers_at(buffer, (at + 4, at + 8, at + 12))) for at in range(0, 16 * count, 16)]
+    found = (buffer[at:at + 16] for at in range(0, 16 * count, 16))
+    return [Execution(*numbers_at(e, (4, 8, 12)), e[2]) for e in found]
 
 
 def letter(kind):
@@ -140,7 +141,7 @@ def listed(orders):
 
 
 def traded(executions):
-    return ", ".join(f"{e.shares:,} of {e.number} at {e.price}" for e in executions) or "none"
+    return ", ".join(f"{e.shares:,} of {e.number} at {e.price} by paragraph {e.paragraph}" for e in executions) or "none"
 
 
 def answer(numbers):

@@ -41,7 +41,8 @@ static void take(ruhvasto_take_request request)
     printf("take refusal %" PRIu32 " executions %" PRIu32 " left %" PRIu32 "\n", taken.refusal, taken.count, taken.left);
     for (uint32_t i = 0; i < taken.count; i++) {
         ruhvasto_execution execution = ruhvasto_execution_at(executions + i * RUHVASTO_EXECUTION_BYTES);
-        printf("%" PRIu32 " shares from order %" PRIu32 " at %" PRIu32 "\n", execution.shares, execution.number, execution.price);
+        printf("%" PRIu32 " shares from order %" PRIu32 " at %" PRIu32 " by paragraph %" PRIu32 "\n",
+            execution.shares, execution.number, execution.price, execution.paragraph);
     }
 }
 
@@ -55,12 +56,14 @@ int main(void)
     printf("add 2 refusal %" PRIu32 "\n", add_sell(2, 100000, 1000));
     printf("add 3 refusal %" PRIu32 "\n", add_sell(3, 100000, 3000));
     printf("add 4 refusal %" PRIu32 "\n", add_sell(4, 100000, 1000));
+    printf("add 5 refusal %" PRIu32 "\n", add_sell(5, 100000, 40));
     print_book();
     find(3);
     printf("reduce 1 refusal %" PRIu32 "\n", ruhvasto_reduce(book, sizeof book, 1, 400));
     take((ruhvasto_take_request){ .side = RUHVASTO_BUY, .limit = 100000, .size = 1000, .algorithm = RUHVASTO_PRO_RATA_SETTER });
     print_book();
-    find(5);
+    take((ruhvasto_take_request){ .side = RUHVASTO_BUY, .limit = 100000, .size = 4030, .algorithm = RUHVASTO_PRO_RATA });
+    find(4);
     printf("add 4 refusal %" PRIu32 "\n", add_sell(4, 100000, 1000));
     return 0;
 }

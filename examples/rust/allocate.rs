@@ -65,8 +65,8 @@ fn take(book: &mut [u8], request: TakeRequest) {
             {
                 let execution = Execution::of(bytes);
                 println!(
-                    "{} shares from order {} at {}",
-                    execution.shares, execution.number, execution.price
+                    "{} shares from order {} at {} by paragraph {}",
+                    execution.shares, execution.number, execution.price, execution.paragraph
                 );
             }
         }
@@ -84,6 +84,7 @@ fn main() {
     add_sell(&mut book, 2, 100000, 1000);
     add_sell(&mut book, 3, 100000, 3000);
     add_sell(&mut book, 4, 100000, 1000);
+    add_sell(&mut book, 5, 100000, 40);
     print_book(&book);
     find(&book, 3);
     println!(
@@ -98,6 +99,12 @@ fn main() {
     };
     take(&mut book, request);
     print_book(&book);
-    find(&book, 5);
+    let request = TakeRequest {
+        size: 4030,
+        algorithm: Algorithm::ProRata,
+        ..request
+    };
+    take(&mut book, request);
+    find(&book, 4);
     add_sell(&mut book, 4, 100000, 1000);
 }

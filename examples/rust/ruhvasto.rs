@@ -2,7 +2,7 @@
 //! says, never NULL, and two that are lent at once to be written never overlap: so these functions are safe.
 
 /// The version of the interface that this module is written for.
-pub const VERSION: u32 = 2;
+pub const VERSION: u32 = 3;
 
 pub const RECORD_BYTES: usize = 32;
 pub const EXECUTION_BYTES: usize = 16;
@@ -227,6 +227,7 @@ pub struct Execution {
     pub number: u32,
     pub price: u32,
     pub shares: u32,
+    pub paragraph: u8,
 }
 
 impl Execution {
@@ -236,6 +237,7 @@ impl Execution {
             number: number_at(bytes, 4),
             price: number_at(bytes, 8),
             shares: number_at(bytes, 12),
+            paragraph: bytes[2],
         }
     }
 }

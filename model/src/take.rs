@@ -25,6 +25,8 @@ struct Incoming {
 /// What one resting order traded, at its own price.
 #[derive(Clone, Copy, Debug, PartialEq, Eq)]
 pub struct Execution {
+    /// The paragraph of the rule whose group gave the shares.
+    pub paragraph: u8,
     pub number: u32,
     pub price: u32,
     pub shares: u32,
@@ -57,6 +59,7 @@ pub fn read_executions(executions: &[u8], count: u32) -> Vec<Execution> {
         .chunks_exact(EXECUTION_LENGTH)
         .take(count as usize)
         .map(|bytes| Execution {
+            paragraph: bytes[2],
             number: book::number_at(bytes, 4),
             price: book::number_at(bytes, 8),
             shares: book::number_at(bytes, 12),
@@ -104,7 +107,7 @@ impl Incoming {
 
 impl Algorithm {
     /// The paragraph of the rule in which an order has its turn.
-    fn paragraph(self, order: &Order) -> u32 {
+    fn paragraph(self, order: &Order) -> u8 {
         let round_lot = order.size >= ROUND_LOT;
         match (self, order.kind) {
             (Algorithm::PriceTime, Kind::Displayed) => 2,
@@ -118,7 +121,7 @@ impl Algorithm {
     }
 
     /// How the group of a paragraph shares.
-    fn allot(self, paragraph: u32, group: &[Order], shares: u32) -> Allotment {
+    fn allot(self, paragraph: u8, group: &[Order], shares: u32) -> Allotment {
         match (self, paragraph) {
             (Algorithm::PriceTime, _) => sharing::by_time(group, shares),
             (Algorithm::ProRataWithSetter, 2) => sharing::lot_sharing_with_setter(group, shares),
@@ -146,6 +149,7 @@ fn fills(orders: &[Order], incoming: &Incoming) -> Vec<Execution> {
                 left -= shares;
                 if shares > 0 {
                     fills.push(Execution {
+                        paragraph,
                         number: order.number,
                         price,
                         shares,
@@ -188,7 +192,8 @@ fn resting(orders: &[Order], fills: &[Execution]) -> Vec<Order> {
 fn write_executions(executions: &mut [u8], fills: &[Execution]) {
     for (bytes, fill) in executions.chunks_exact_mut(EXECUTION_LENGTH).zip(fills) {
         bytes[0..2].copy_from_slice(&EXECUTION_MARK);
-        bytes[2..4].fill(0);
+        bytes[2] = fill.paragraph;
+        bytes[3] = 0;
         bytes[4..8].copy_from_slice(&fill.number.to_le_bytes());
         bytes[8..12].copy_from_slice(&fill.price.to_le_bytes());
         bytes[12..16].copy_from_slice(&fill.shares.to_le_bytes());

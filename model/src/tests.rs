@@ -1,8 +1,9 @@
 //! The scope's cases, its refusals in their order, the readings of the rule that
-//! it rules out, and what each paragraph of the rule says.
+//! it rules out, what each paragraph of the rule says, and what executions name.
 
 mod books;
 mod cases;
+mod executions;
 mod lines;
 mod paragraphs;
 mod readings;

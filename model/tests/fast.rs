@@ -203,7 +203,7 @@ fn fast_and_plain_agree_on_damaged_books() {
 /// One take by both, on copies of the same book.
 fn agree_on_size(book: &[u8], side: u32, limit: u32, size: u32, algorithm: u32) {
     let mut copies = [book.to_vec(), book.to_vec()];
-    let mut executions = [vec![0; 4_096], vec![0; 4_096]];
+    let mut executions = [vec![0xEE; 4_096], vec![0xEE; 4_096]];
     let [plain, fast] = &mut copies;
     let [first, second] = &mut executions;
     let plain = model::take(plain, first, side, limit, size, algorithm);

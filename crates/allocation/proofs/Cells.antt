@@ -1,11 +1,11 @@
 -- The group of a paragraph at a price: its number, and which orders' keys have it.
-use Prim.Native.Nat.{ℕ, zero, suc, _+_, _*_, _%_, _≤_, _<_}
+use Prim.Native.Nat.{ℕ, suc, _+_, _*_, _%_, _≤_, _<_}
 use mathlib.Core.Path.{_≡_, refl, sym, ap, _∙_}
 use mathlib.Core.Bool.{Bool, true, false, _&&_}
 use mathlib.Core.List.{List, [], _∷_, map}
 use native.Mathlib.Omega.{arith}
 use lib.Dec.{leb, eqb}
-use lib.ListN.{length, getD}
+use lib.ListN.{length}
 use borrow.Author.Tests.{eqb-true, eq-eqb, leb-false}
 use Rattle.units.specs.Lists.{filter, consIf}
 use Rattle.units.proofs.Members.{Every}
@@ -19,14 +19,15 @@ use Rattle.orders.specs.Trading.{isOppositeOf, withinLimit, isTradable}
 use Rattle.record.proofs.Orders.{OrderSound, OrderFacts, order-facts}
 use Rattle.matching.specs.declared.Algorithm.{Algorithm}
 use Rattle.matching.specs.declared.Paragraph.{Paragraph}
-use Rattle.matching.specs.declared.Paragraph.the-variants.{Two, Three, Four, Five, Six}
 use Rattle.matching.specs.declared.incoming.Incoming.{Incoming}
-use Rattle.matching.specs.Paragraph.{Group, groupOf, inGroup, partOf, paragraphs}
+use Rattle.matching.specs.Paragraph.{Group, groupOf, inGroup, partOf, paragraphNumber}
+use Rattle.matching.specs.Numbered.{paragraphNumbered}
+use Rattle.matching.proofs.Places.{numbered-back, number-numbered, number-back}
 use Rattle.matching.proofs.Parts.{stands, part-in, part-out}
-use Rattle.parts.specs.Key.{groupIn, placeIn, sharesIn}
-use Rattle.parts.specs.Parts.{rankOn, paragraphPlace, partKey, mayMeet, keysFrom}
+use Rattle.parts.specs.Key.{groupIn, paragraphIn, placeIn, sharesIn}
+use Rattle.parts.specs.Parts.{rankOn, paragraphFor, partKey, mayMeet, keysFrom}
 use Rattle.parts.proofs.Keys.{key-group, key-place, key-shares, group-paragraph}
-use Rattle.parts.proofs.Paragraphs.{placeOf, in-paragraph, all-stand, place-few}
+use Rattle.parts.proofs.Paragraphs.{in-paragraph, all-stand, for-numbered}
 use Rattle.allocation.specs.Walk.{paragraphOf, partIn}
 use Rattle.allocation.proofs.LeftOut.{Idle}
 use Rattle.allocation.proofs.Rows.{Row}
@@ -37,26 +38,18 @@ ofGroup group key = eqb (groupIn key) group
 
 -- the number of the group of a paragraph at a price
 abbrev pub cell : Side → ℕ → Paragraph → ℕ
-cell side price g = 8 * rankOn side price + placeOf g
+cell side price g = 8 * rankOn side price + paragraphNumber g
 
--- a paragraph's place is below 8
-pub place-below : (g : Paragraph) → placeOf g < 8
-place-below Two = omega arith
-place-below Three = omega arith
-place-below Four = omega arith
-place-below Five = omega arith
-place-below Six = omega arith
+-- a paragraph's number is below 8
+pub number-below : (g : Paragraph) → paragraphNumber g < 8
+number-below g = let l = number-numbered g .most in omega arith
 
--- the paragraph of that group
+-- the paragraph of that group, by its number
+pub cell-number : (side : Side) (price : ℕ) (g : Paragraph) → paragraphIn (cell side price g) ≡ paragraphNumber g
+cell-number side price g = group-paragraph (rankOn side price) (paragraphNumber g) (number-below g)
+
 pub cell-paragraph : (side : Side) (price : ℕ) (g : Paragraph) → paragraphOf (cell side price g) ≡ g
-cell-paragraph side price g = rw (group-paragraph (rankOn side price) (placeOf g) (place-below g)) (back g)
-  where
-    back : (g : Paragraph) → getD (Two ∷ Three ∷ Four ∷ Five ∷ Six ∷ []) (placeOf g) Six ≡ g
-    back Two = refl
-    back Three = refl
-    back Four = refl
-    back Five = refl
-    back Six = refl
+cell-paragraph side price g = ap paragraphNumbered (cell-number side price g) ∙ numbered-back g
 
 -- prices of one rank are one price
 pub rank-same : (side : Side) (p q : ℕ) → p ≤ 2000000000 → q ≤ 2000000000 → rankOn side p ≡ rankOn side q → p ≡ q
@@ -70,43 +63,43 @@ Beside at p (o ∷ os) = (at p ≡ o) × Beside at (suc p) os
 
 -- What the key of a sound order holds.
 module _ (lot : ℕ) (alg : Algorithm) (side : Side) (p : ℕ) (h : p < 512) (o : Order) (f : OrderFacts o) where
-  abbrev place : ℕ
-  place = paragraphPlace lot alg (o .kind) (sizeOf o)
+  abbrev paragraph : ℕ
+  paragraph = paragraphFor lot alg (o .kind) (sizeOf o)
 
-  few : place < 8
-  few = omega (arith, place-few lot alg (o .kind) (sizeOf o))
+  few : paragraph < 8
+  few = let l = for-numbered lot alg (o .kind) (sizeOf o) .most in omega arith
 
   low : sizeOf o < 1048576
   low = let m = f .size-most in omega arith
 
-  pub part-group : groupIn (partKey lot alg side p o) ≡ 8 * rankOn side (priceOf o) + place
-  part-group = key-group (rankOn side (priceOf o)) place p (sizeOf o) few h low
+  pub part-group : groupIn (partKey lot alg side p o) ≡ 8 * rankOn side (priceOf o) + paragraph
+  part-group = key-group (rankOn side (priceOf o)) paragraph p (sizeOf o) few h low
 
   pub part-place : placeIn (partKey lot alg side p o) ≡ p
-  part-place = key-place (rankOn side (priceOf o)) place p (sizeOf o) few h low
+  part-place = key-place (rankOn side (priceOf o)) paragraph p (sizeOf o) few h low
 
   pub part-shares : sharesIn (partKey lot alg side p o) ≡ sizeOf o
-  part-shares = key-shares (rankOn side (priceOf o)) place p (sizeOf o) few h low
+  part-shares = key-shares (rankOn side (priceOf o)) paragraph p (sizeOf o) few h low
 
   -- it is of a group where the order has the price and stands in the paragraph's group
   in-cell : (price : ℕ) → price ≤ 2000000000 → (g : Paragraph)
       → eqb (groupIn (partKey lot alg side p o)) (cell side price g) ≡ (eqb (priceOf o) price && inGroup (groupOf lot alg g) o)
   in-cell price k g =
       rw (part-group, in-paragraph lot alg g o (omega (arith, f .size-least)))
-      (same-test (eqb (8 * rankOn side (priceOf o) + place) (cell side price g)) (eqb (priceOf o) price && eqb place (placeOf g)) there back)
+      (same-test (eqb (8 * rankOn side (priceOf o) + paragraph) (cell side price g)) (eqb (priceOf o) price && eqb paragraph (paragraphNumber g)) there back)
     where
-      there : eqb (8 * rankOn side (priceOf o) + place) (cell side price g) ≡ true → (eqb (priceOf o) price && eqb place (placeOf g)) ≡ true
+      there : eqb (8 * rankOn side (priceOf o) + paragraph) (cell side price g) ≡ true → (eqb (priceOf o) price && eqb paragraph (paragraphNumber g)) ≡ true
       there e =
-          let q = eqb-true (8 * rankOn side (priceOf o) + place) (cell side price g) e in
-          let x : rankOn side (priceOf o) ≡ rankOn side price = omega (arith, few, place-below g) in
-          let y : place ≡ placeOf g = omega (arith, few, place-below g) in
-          true-and (eq-eqb (priceOf o) price (rank-same side (priceOf o) price (f .price-most) k x)) (eq-eqb place (placeOf g) y)
+          let q = eqb-true (8 * rankOn side (priceOf o) + paragraph) (cell side price g) e in
+          let x : rankOn side (priceOf o) ≡ rankOn side price = omega (arith, few, number-below g) in
+          let y : paragraph ≡ paragraphNumber g = omega (arith, few, number-below g) in
+          true-and (eq-eqb (priceOf o) price (rank-same side (priceOf o) price (f .price-most) k x)) (eq-eqb paragraph (paragraphNumber g) y)
 
-      back : (eqb (priceOf o) price && eqb place (placeOf g)) ≡ true → eqb (8 * rankOn side (priceOf o) + place) (cell side price g) ≡ true
+      back : (eqb (priceOf o) price && eqb paragraph (paragraphNumber g)) ≡ true → eqb (8 * rankOn side (priceOf o) + paragraph) (cell side price g) ≡ true
       back e =
-          let a = and-true (eqb (priceOf o) price) (eqb place (placeOf g)) e in
-          eq-eqb (8 * rankOn side (priceOf o) + place) (cell side price g)
-          (rw (eqb-true (priceOf o) price (a .0), eqb-true place (placeOf g) (a .1)))
+          let a = and-true (eqb (priceOf o) price) (eqb paragraph (paragraphNumber g)) e in
+          eq-eqb (8 * rankOn side (priceOf o) + paragraph) (cell side price g)
+          (rw (eqb-true (priceOf o) price (a .0), eqb-true paragraph (paragraphNumber g) (a .1)))
 
 -- an order on the other side stands in the group that its key is of
 pub part-stands : (lot : ℕ) (alg : Algorithm) (t : Taker) (p : ℕ) → p < 512 → (o : Order) → OrderFacts o → isOppositeOf t o ≡ true
@@ -114,20 +107,12 @@ pub part-stands : (lot : ℕ) (alg : Algorithm) (t : Taker) (p : ℕ) → p < 51
 part-stands lot alg t p h o f e =
     let k = groupIn (partKey lot alg (t .side) p o) in
     let g = paragraphOf k in
-    let n = group-paragraph (rankOn (t .side) (priceOf o)) (paragraphPlace lot alg (o .kind) (sizeOf o)) (few lot alg (t .side) p h o f) in
+    let n = group-paragraph (rankOn (t .side) (priceOf o)) (paragraphFor lot alg (o .kind) (sizeOf o)) (few lot alg (t .side) p h o f) in
     true-and (true-and e (eq-eqb (priceOf o) (priceOf o) refl))
     (in-paragraph lot alg g o (omega (arith, f .size-least))
-    ∙ eq-eqb (paragraphPlace lot alg (o .kind) (sizeOf o)) (placeOf g)
-    (sym (ap (λ j. placeOf (getD paragraphs j Six)) (ap (λ j. j % 8) (part-group lot alg (t .side) p h o f) ∙ n)
-    ∙ place-back (paragraphPlace lot alg (o .kind) (sizeOf o)) (place-few lot alg (o .kind) (sizeOf o)))))
-  where
-    place-back : (j : ℕ) → j < 5 → placeOf (getD paragraphs j Six) ≡ j
-    place-back zero l = refl
-    place-back (suc zero) l = refl
-    place-back (suc (suc zero)) l = refl
-    place-back (suc (suc (suc zero))) l = refl
-    place-back (suc (suc (suc (suc zero)))) l = refl
-    place-back (suc (suc (suc (suc (suc j))))) l = absurd (omega arith)
+    ∙ eq-eqb (paragraphFor lot alg (o .kind) (sizeOf o)) (paragraphNumber g)
+    (sym (ap (λ j. paragraphNumber (paragraphNumbered j)) (ap (λ j. j % 8) (part-group lot alg (t .side) p h o f) ∙ n)
+    ∙ number-back (paragraphFor lot alg (o .kind) (sizeOf o)) (for-numbered lot alg (o .kind) (sizeOf o)))))
 
 -- The group of a paragraph at a price within the limit.
 module _ (lot : ℕ) (alg : Algorithm) (i : Incoming) (at : ℕ → Order) (price : ℕ) (h : price ≤ 2000000000)

@@ -2,7 +2,7 @@
 use Prim.Native.Nat.{ℕ, suc, _+_, _-_, _≤_, _<_, min}
 use mathlib.Core.Path.{_≡_, refl, sym, ap, _∙_}
 use mathlib.Core.Bool.{Bool, true, false}
-use mathlib.Core.List.{List, [], _∷_, _++_, append-nil, append-assoc}
+use mathlib.Core.List.{List, [], _∷_, _++_, map, map-append, append-nil, append-assoc}
 use native.Mathlib.Omega.{arith}
 use native.Mathlib.Numerals.{add-one}
 use native.Mathlib.Nat.{add-zero, sub-zero}
@@ -13,17 +13,19 @@ use borrow.Author.Tests.{eqb-true, eqb-false}
 use Rattle.units.specs.Lists.{consIf, orZero, sum}
 use Rattle.units.proofs.Members.{every-split}
 use Rattle.units.proofs.Totals.{total-append}
+use Rattle.orders.specs.declared.order.Order.{Order}
 use Rattle.matching.specs.declared.incoming.Incoming.{Incoming}
 use Rattle.matching.specs.Incoming.{executed}
 use Rattle.parts.specs.Key.{placeIn, withShares}
+use Rattle.parts.proofs.Keys.{with-group, with-place, with-shares}
 use Rattle.allocation.proofs.Places.{take-within}
-use Rattle.allocation.specs.Walk.{fillsOf}
-use Rattle.allocation.specs.Credit.{Ledger, ledger, leftIn, Room, Credited}
-use Rattle.allocation.proofs.Gets.{fills-append, got-append, got-within}
+use Rattle.allocation.specs.Walk.{executionIn, executionsFrom, executionOf, fillsOf}
+use Rattle.allocation.specs.Credit.{Ledger, ledger, leftIn, logged, Room, Credited}
+use Rattle.allocation.proofs.Gets.{fills-append, executions-append, got-append, got-within}
 use Rattle.allocation.proofs.Places.{total-next}
 
 -- there are no more fills than parts
-fills-few : (keys gets : List ℕ) → length (fillsOf keys gets) ≤ length keys
+pub fills-few : (keys gets : List ℕ) → length (fillsOf keys gets) ≤ length keys
 fills-few [] gets = omega arith
 fills-few (k ∷ keys) [] = omega arith
 fills-few (k ∷ keys) (n ∷ gets) = go (ltb 0 n) (fills-few keys gets)
@@ -42,6 +44,7 @@ credited-none l = record {
   left = rw sub-zero;
   count = omega arith;
   fills = sym (append-nil (take (l .progress .count) (l .fills)));
+  executions = λ at. sym (append-nil (logged at l));
   allotment = λ i. omega arith;
   room = refl;
   records = refl;
@@ -61,6 +64,10 @@ credited-append {keys} {gets} {later} {more} {a} p q e =
           q .fills ∙ ap (λ l. l ++ fillsOf later more) (p .fills)
           ∙ append-assoc (take (a .progress .count) (a .fills)) (fillsOf keys gets) (fillsOf later more)
           ∙ ap (λ l. take (a .progress .count) (a .fills) ++ l) (sym f);
+      executions = λ at.
+          q .executions at ∙ ap (λ l. l ++ executionsFrom at later more) (p .executions at)
+          ∙ append-assoc (logged at a) (executionsFrom at keys gets) (executionsFrom at later more)
+          ∙ ap (λ l. logged at a ++ l) (sym (executions-append at keys later gets more e));
       allotment = λ i. omega (arith, p .allotment i, q .allotment i, got-append i keys later gets more e);
       room = q .room ∙ p .room;
       records = q .records ∙ p .records;
@@ -75,13 +82,14 @@ room-after {keys} {gets} {later} {a} r p h = record {
 }
 
 -- one part gets n shares
-credited-one : (k n : ℕ) (l : Ledger) → l .progress .count < length (l .fills) → placeIn k < length (l .allotment)
+credited-one : (k n : ℕ) (l : Ledger) → l .progress .count < length (l .fills) → placeIn k < length (l .allotment) → n < 1048576
     → Credited (k ∷ []) (n ∷ []) l (ledger (record { incoming = executed n (l .progress .incoming); count = l .progress .count + orZero (ltb 0 n) 1 })
     (set (l .fills) (l .progress .count) (withShares n k)) (set (l .allotment) (placeIn k) (getD (l .allotment) (placeIn k) 0 + n)))
-credited-one k n l h p = record {
+credited-one k n l h p low = record {
   left = ap (λ m. executed m (l .progress .incoming)) (sym (add-zero n));
   count = counted (ltb 0 n);
   fills = filled (ltb 0 n);
+  executions = λ at. named at (ltb 0 n);
   allotment = λ i. allotted i (eqb (placeIn k) i) refl;
   room = length-set (l .fills) (l .progress .count) (withShares n k);
   records = length-set (l .allotment) (placeIn k) (getD (l .allotment) (placeIn k) 0 + n);
@@ -97,6 +105,13 @@ credited-one k n l h p = record {
     filled : (b : Bool) → take (count + orZero b 1) (set (l .fills) count (withShares n k)) ≡ take count (l .fills) ++ consIf b (withShares n k) []
     filled true = rw add-one (take-suc-set (l .fills) count (withShares n k) h)
     filled false = rw add-zero (take-set-le count (l .fills) count (withShares n k) (omega arith) ∙ sym (append-nil (take count (l .fills))))
+
+    -- the fill keeps the paragraph of its part
+    named : (at : ℕ → Order) (b : Bool) → map (executionOf at) (take (count + orZero b 1) (set (l .fills) count (withShares n k))) ≡ logged at l ++ consIf b (executionIn at k n) []
+    named at true =
+        let one : executionOf at (withShares n k) ≡ executionIn at k n = rw (with-place n k low, with-group n k low, with-shares n k low) in
+        ap (map (executionOf at)) (filled true) ∙ map-append (executionOf at) (take count (l .fills)) (withShares n k ∷ []) ∙ ap (λ e. logged at l ++ (e ∷ [])) one
+    named at false = ap (map (executionOf at)) (filled false) ∙ map-append (executionOf at) (take count (l .fills)) []
 
     allotted : (i : ℕ) (b : Bool) → eqb (placeIn k) i ≡ b
         → getD (set (l .allotment) (placeIn k) (getD (l .allotment) (placeIn k) 0 + n)) i 0 ≡ getD (l .allotment) i 0 + (orZero b n + 0)
@@ -178,5 +193,5 @@ module _ {keys gets : List ℕ} {start : Ledger} {k used count : ℕ} {fills all
           let e : start .progress .incoming .size .0 - (used + n) ≡ start .progress .incoming .size .0 - used - n = omega arith in
           let w : length (take k gets) ≡ length (take k keys) = length-take k gets ∙ ap (min k) (s .many) ∙ sym (length-take k keys) in
           rw (add-one k, take-suc keys k 0 h, take-suc gets k 0 l, e)
-          (credited-append (s .credited) (credited-one key n now (begun-next .place) (begun-next .entry)) w);
+          (credited-append (s .credited) (credited-one key n now (begun-next .place) (begun-next .entry) (omega (arith, begun-next .small))) w);
     })

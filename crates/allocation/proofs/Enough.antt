@@ -7,7 +7,7 @@ use native.Mathlib.Omega.{arith}
 use native.Mathlib.Nat.{zero-add}
 use native.Mathlib.Decide.{decLt}
 use lib.Dec.{eqb, ltb}
-use lib.ListN.{length, getD}
+use lib.ListN.{length}
 use Rattle.units.specs.Lists.{orZero, sum, total}
 use Rattle.units.proofs.Tests.{pick-least}
 use Rattle.units.proofs.Totals.{total-append, total-map}
@@ -23,38 +23,37 @@ use Rattle.orders.specs.Order.{isDisplayed, sizeOf}
 use Rattle.book.proofs.Soundness.{OrdersSound}
 use Rattle.matching.specs.declared.Algorithm.{Algorithm}
 use Rattle.matching.specs.declared.Algorithm.the-variants.{PriceTime, ProRata, PriceSetter}
-use Rattle.matching.specs.declared.Paragraph.the-variants.{Six}
-use Rattle.matching.specs.Paragraph.{paragraphs}
+use Rattle.matching.specs.Numbered.{paragraphNumbered}
 use Rattle.matching.proofs.Groups.{hasNoMinimum}
 use Rattle.parts.specs.Key.{groupIn, paragraphIn, placeIn, sharesIn}
-use Rattle.parts.specs.Parts.{proRataPlace, paragraphPlace}
-use Rattle.parts.specs.Narrowed.{minimumPlace}
+use Rattle.parts.specs.Parts.{proRataParagraph, paragraphFor}
+use Rattle.parts.specs.Narrowed.{minimumParagraph}
 use Rattle.allocation.specs.Walk.{Walks, partIn, sharedBy}
 use Rattle.allocation.specs.Ready.{Ascending, Stands, Ready}
 use Rattle.allocation.proofs.Cells.{Beside}
 use Rattle.allocation.proofs.Gets.{sum-none}
 use Rattle.allocation.proofs.Stretches.{key-paragraph, stretch-free, stretch-filled}
 
-pro-rata-free : (lot : ℕ) (kind : Kind) (n : ℕ) → eqb (proRataPlace lot kind n) 3 ≡ false
-    → hasNoMinimum ProRata (getD paragraphs (proRataPlace lot kind n) Six) ≡ true
+pro-rata-free : (lot : ℕ) (kind : Kind) (n : ℕ) → eqb (proRataParagraph lot kind n) 5 ≡ false
+    → hasNoMinimum ProRata (paragraphNumbered (proRataParagraph lot kind n)) ≡ true
 pro-rata-free lot Displayed n e = go (ltb n lot)
   where
-    go : (b : Bool) → hasNoMinimum ProRata (getD paragraphs (orZero b 1) Six) ≡ true
+    go : (b : Bool) → hasNoMinimum ProRata (paragraphNumbered (2 + orZero b 1)) ≡ true
     go true = refl
     go false = refl
 pro-rata-free lot NonDisplayed n e = go (ltb n lot)
   where
-    go : (b : Bool) → hasNoMinimum ProRata (getD paragraphs (2 + orZero b 2) Six) ≡ true
+    go : (b : Bool) → hasNoMinimum ProRata (paragraphNumbered (4 + orZero b 2)) ≡ true
     go true = refl
     go false = refl
 pro-rata-free lot (MinimumQuantity m) n e = absurd (true≢false e)
 
 -- where a part's paragraph isn't the one for minimums, the definition's orders there have none
-free-place : (lot : ℕ) (alg : Algorithm) (kind : Kind) (n : ℕ) → eqb (paragraphPlace lot alg kind n) (minimumPlace alg) ≡ false
-    → hasNoMinimum alg (getD paragraphs (paragraphPlace lot alg kind n) Six) ≡ true
+free-place : (lot : ℕ) (alg : Algorithm) (kind : Kind) (n : ℕ) → eqb (paragraphFor lot alg kind n) (minimumParagraph alg) ≡ false
+    → hasNoMinimum alg (paragraphNumbered (paragraphFor lot alg kind n)) ≡ true
 free-place lot PriceTime kind n e = go (isDisplayed kind) e
   where
-    go : (b : Bool) → eqb (cond b 0 1) 1 ≡ false → hasNoMinimum PriceTime (getD paragraphs (cond b 0 1) Six) ≡ true
+    go : (b : Bool) → eqb (cond b 2 3) 3 ≡ false → hasNoMinimum PriceTime (paragraphNumbered (cond b 2 3)) ≡ true
     go true e = refl
     go false e = absurd (true≢false e)
 free-place lot ProRata kind n e = pro-rata-free lot kind n e
@@ -83,13 +82,13 @@ all-full r (p ∷ ps) (n ∷ ns) z (Each.more (Met.unmet e l) m) = let y = z .0 
 
 -- the shares of a part that has no minimum
 abbrev pub free : Algorithm → ℕ → ℕ
-free alg k = orZero (not (eqb (paragraphIn (groupIn k)) (minimumPlace alg))) (sharesIn k)
+free alg k = orZero (not (eqb (paragraphIn (groupIn k)) (minimumParagraph alg))) (sharesIn k)
 
 free-most : (alg : Algorithm) (keys : List ℕ) → total (free alg) keys ≤ total sharesIn keys
 free-most alg [] = omega arith
-free-most alg (k ∷ keys) = omega (arith, pick-least (not (eqb (paragraphIn (groupIn k)) (minimumPlace alg))) (sharesIn k), free-most alg keys)
+free-most alg (k ∷ keys) = omega (arith, pick-least (not (eqb (paragraphIn (groupIn k)) (minimumParagraph alg))) (sharesIn k), free-most alg keys)
 
-free-none : (alg : Algorithm) (group : ℕ) → eqb (paragraphIn group) (minimumPlace alg) ≡ true → (keys : List ℕ) → Every (λ k. groupIn k ≡ group) keys
+free-none : (alg : Algorithm) (group : ℕ) → eqb (paragraphIn group) (minimumParagraph alg) ≡ true → (keys : List ℕ) → Every (λ k. groupIn k ≡ group) keys
     → total (free alg) keys ≡ 0
 free-none alg group e [] a = refl
 free-none alg group e (k ∷ keys) a = rw (a .0, e, zero-add) (free-none alg group e keys (a .1))
@@ -108,17 +107,17 @@ module _ (lot : ℕ) (hasLot : 0 < lot) (alg : Algorithm) (t : Taker) (at : ℕ 
 
     -- a group that leaves shares has given its parts without a minimum all they want
     given : sum shared < left → total (free alg) (first ∷ keys) ≤ sum shared
-    given h = go (eqb (paragraphIn (groupIn first)) (minimumPlace alg)) refl
+    given h = go (eqb (paragraphIn (groupIn first)) (minimumParagraph alg)) refl
       where
         parts : List Part
         parts = map (partIn at) (first ∷ keys)
 
-        go : (c : Bool) → eqb (paragraphIn (groupIn first)) (minimumPlace alg) ≡ c → total (free alg) (first ∷ keys) ≤ sum shared
+        go : (c : Bool) → eqb (paragraphIn (groupIn first)) (minimumParagraph alg) ≡ c → total (free alg) (first ∷ keys) ≤ sum shared
         go true q = let z = free-none alg (groupIn first) q (first ∷ keys) (refl, e) in omega arith
         go false q =
             let p = key-paragraph lot alg t at os s few b first (r .each .0) in
             let o = at (placeIn first) in
-            let f : hasNoMinimum alg (getD paragraphs (paragraphIn (groupIn first)) Six) ≡ true =
+            let f : hasNoMinimum alg (paragraphNumbered (paragraphIn (groupIn first))) ≡ true =
             rw p (free-place lot alg (o .kind) (sizeOf o) (rw p at q)) in
             let m = all-full (left - sum shared) parts shared (stretch-free lot alg t at os s few b first keys r e f)
             (stretch-filled lot alg t at os s few b first keys r e hasLot left .met h) in

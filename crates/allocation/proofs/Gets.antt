@@ -9,8 +9,9 @@ use borrow.Author.Tests.{le-ltb}
 use Rattle.units.specs.Lists.{consIf, sum, total}
 use Rattle.units.proofs.Tests.{pick-least}
 use Rattle.units.proofs.Totals.{cons-append}
+use Rattle.orders.specs.declared.order.Order.{Order}
 use Rattle.parts.specs.Key.{placeIn, sharesIn, withShares}
-use Rattle.allocation.specs.Walk.{fillsOf, gotAt}
+use Rattle.allocation.specs.Walk.{executionIn, executionsFrom, fillsOf, gotAt}
 
 -- fills of keys one behind another
 pub fills-append : (keys later gets more : List ℕ) → length gets ≡ length keys → fillsOf (keys ++ later) (gets ++ more) ≡ fillsOf keys gets ++ fillsOf later more
@@ -20,6 +21,16 @@ fills-append (k ∷ keys) later [] more e = absurd (omega arith)
 fills-append (k ∷ keys) later (n ∷ gets) more e =
     ap (consIf (ltb 0 n) (withShares n k)) (fills-append keys later gets more (omega arith))
     ∙ cons-append (ltb 0 n) (withShares n k) (fillsOf keys gets) (fillsOf later more)
+
+-- their executions
+pub executions-append : (at : ℕ → Order) (keys later gets more : List ℕ) → length gets ≡ length keys
+    → executionsFrom at (keys ++ later) (gets ++ more) ≡ executionsFrom at keys gets ++ executionsFrom at later more
+executions-append at [] later [] more e = refl
+executions-append at [] later (n ∷ gets) more e = absurd (omega arith)
+executions-append at (k ∷ keys) later [] more e = absurd (omega arith)
+executions-append at (k ∷ keys) later (n ∷ gets) more e =
+    ap (consIf (ltb 0 n) (executionIn at k n)) (executions-append at keys later gets more (omega arith))
+    ∙ cons-append (ltb 0 n) (executionIn at k n) (executionsFrom at keys gets) (executionsFrom at later more)
 
 -- and what a record gets
 pub got-append : (p : ℕ) (keys later gets more : List ℕ) → length gets ≡ length keys
@@ -40,6 +51,11 @@ pub fills-none : (keys gets : List ℕ) → sum gets ≡ 0 → fillsOf keys gets
 fills-none [] gets z = refl
 fills-none (k ∷ keys) [] z = refl
 fills-none (k ∷ keys) (n ∷ gets) z = rw (le-ltb 0 n (omega arith)) (fills-none keys gets (omega arith))
+
+pub executions-none : (at : ℕ → Order) (keys gets : List ℕ) → sum gets ≡ 0 → executionsFrom at keys gets ≡ []
+executions-none at [] gets z = refl
+executions-none at (k ∷ keys) [] z = refl
+executions-none at (k ∷ keys) (n ∷ gets) z = rw (le-ltb 0 n (omega arith)) (executions-none at keys gets (omega arith))
 
 pub sum-none : (keys : List ℕ) → sum (map (λ k. 0) keys) ≡ 0
 sum-none [] = refl

@@ -8,7 +8,6 @@ use native.Mathlib.Nat.{zero-add}
 use lib.ListN.{length, getD, length-map}
 use Rattle.units.specs.Lists.{filter, sum}
 use Rattle.units.proofs.Members.{Every, member-every}
-use Rattle.units.proofs.Totals.{total-map, total-member}
 use Rattle.sharing.specs.Rank.{Part}
 use Rattle.orders.specs.declared.order.Order.{Order}
 use Rattle.orders.specs.declared.order.Taker.{Taker}
@@ -23,20 +22,20 @@ use Rattle.matching.proofs.Parts.{partsAt, parts-rising}
 use Rattle.matching.proofs.Groups.{lots-no-minimum, no-minimum}
 use Rattle.matching.proofs.Allotting.{used-within}
 use Rattle.parts.specs.Parts.{keysFrom}
-use Rattle.allocation.specs.Walk.{partIn, executionOf, sharedBy, fillsOf, gotAt}
+use Rattle.allocation.specs.Walk.{partIn, executionsFrom, sharedBy, gotAt}
 use Rattle.allocation.proofs.LeftOut.{Idle, Alike, left-out}
 use Rattle.allocation.proofs.Rows.{Row, row-thin, row-sum, row-got, row-executions}
-use Rattle.allocation.proofs.Cells.{ofGroup, cell, cell-paragraph, Beside, cell-row}
+use Rattle.allocation.proofs.Cells.{ofGroup, cell, cell-number, cell-paragraph, Beside, cell-row}
 
 -- An allocation beside the orders of a book, and numbers beside keys of their parts, give the same.
 pub record Allots (at : ℕ → Order) (os : List Order) (keys gets : List ℕ) (left : ℕ) (row : Allocation) : Type 0 where
-  pub executes : executionsBy (paragraphNumber (row .paragraph)) (row .price) os (row .allotment) ≡ map (executionOf at) (fillsOf keys gets)
+  pub executes : executionsBy (paragraphNumber (row .paragraph)) (row .price) os (row .allotment) ≡ executionsFrom at keys gets
   pub uses : used row ≡ sum gets
   pub gives : (j : ℕ) → j < length os → getD (row .allotment) j 0 ≡ gotAt j keys gets
   pub many : length gets ≡ length keys
   pub within : used row ≤ left
 
-module _ (lot : ℕ) (hasLot : 0 < lot) (alg : Algorithm) (i : Incoming) (small : i .size .0 ≤ 999999) (at : ℕ → Order) (os : List Order)
+module _ (lot : ℕ) (hasLot : 0 < lot) (alg : Algorithm) (i : Incoming) (at : ℕ → Order) (os : List Order)
     (s : OrdersSound os) (few : length os ≤ 256) (b : Beside at 0 os) (price : ℕ) (h : price ≤ 2000000000)
     (w : withinLimit (i .taker .side) (i .taker .limit .0) price ≡ true) (g : Paragraph) (left : ℕ) (l : left ≤ i .size .0) where
   abbrev t : Taker
@@ -74,18 +73,13 @@ module _ (lot : ℕ) (hasLot : 0 < lot) (alg : Algorithm) (i : Incoming) (small 
   uses-within : used row ≤ left
   uses-within = used-within lot hasLot alg t os (s .rise) (s .setters) price g left
 
-  low : Every (λ q. f q < 1048576) ps
-  low =
-      member-every (λ q. f q < 1048576) ps
-      (λ q m. omega (arith, total-member f ps q m, total-map (λ n. n) f ps, ap sum (alike .whole), uses-within))
-
   pub cell-allots : Allots at os keys (sharedBy at lot alg number keys left) left row
   unfolding allocationAt
   cell-allots = record {
     executes =
         rw (alike .whole, alike .kept)
-        (ap (λ (p : Paragraph). executionsBy (paragraphNumber p) price os (map f ps)) (sym (cell-paragraph (t .side) price g))
-        ∙ row-executions at price number (i .size .0) f here given low);
+        (ap (λ n. executionsBy n price os (map f ps)) (sym (cell-number (t .side) price g))
+        ∙ row-executions at price number (i .size .0) f here given);
     uses = rw (alike .kept) (ap sum (alike .whole) ∙ row-sum at price number (i .size .0) f here given);
     gives = λ j k. rw (alike .whole, alike .kept) (row-got at price number (i .size .0) f here given j k ∙ ap (λ p. gotAt p keys (map f (map (partIn at) keys))) (zero-add j));
     many = rw (alike .kept, length-map, length-map);

@@ -1,6 +1,6 @@
 -- The cells of an incoming order's price levels: in rising order, each at a price within the limit, and the group of every part is one of them.
-use Prim.Native.Nat.{ℕ, zero, suc, _+_, _*_, _≤_, _<_}
-use mathlib.Core.Path.{_≡_, refl}
+use Prim.Native.Nat.{ℕ, suc, _+_, _*_, _≤_, _<_}
+use mathlib.Core.Path.{_≡_, refl, subst}
 use mathlib.Core.Bool.{Bool, true, false}
 use mathlib.Core.List.{List, [], _∷_, _++_, map, List·Memᴰ, List·Memᴰ·head, List·Memᴰ·tail}
 use native.Mathlib.Omega.{arith}
@@ -19,14 +19,17 @@ use Rattle.orders.specs.Trading.{isBetter, isOppositeOf, withinLimit, isTradabl
 use Rattle.record.proofs.Orders.{OrderSound, order-facts}
 use Rattle.matching.specs.declared.Algorithm.{Algorithm}
 use Rattle.matching.specs.declared.Paragraph.{Paragraph}
+use Rattle.matching.specs.declared.Paragraph.the-variants.{Two, Three, Four, Five, Six}
 use Rattle.matching.specs.declared.incoming.Incoming.{Incoming}
 use Rattle.matching.specs.Paragraph.{paragraphs}
+use Rattle.matching.specs.Numbered.{paragraphNumbered}
 use Rattle.matching.specs.Levels.{priceLevels}
+use Rattle.matching.proofs.Places.{number-back}
 use Rattle.matching.proofs.Levels.{Sorted, levels-sorted, levels-have, levels-only}
 use Rattle.parts.specs.Key.{groupIn}
-use Rattle.parts.specs.Parts.{rankOn, paragraphPlace, partKey, mayMeet, keysFrom}
-use Rattle.parts.proofs.Paragraphs.{place-few}
-use Rattle.allocation.proofs.Cells.{place-below, part-group}
+use Rattle.parts.specs.Parts.{rankOn, paragraphFor, partKey, mayMeet, keysFrom}
+use Rattle.parts.proofs.Paragraphs.{for-numbered}
+use Rattle.allocation.proofs.Cells.{cell, number-below, part-group}
 use Rattle.allocation.proofs.Along.{Cell, cellsAt, cellsOver, numberOf, Ascends, Fine}
 
 -- a better price has a lower rank
@@ -66,24 +69,20 @@ module _ (side : Side) where
       ascends-append (cellsAt p paragraphs) (cellsOver prices) (ascends-at p) (ascends-over prices (h .1) (s .1))
       (every-cell (λ c. Every (λ d. numberOf side c < numberOf side d) (cellsOver prices)) p
       (λ g. every-over (λ d. numberOf side (p, g) < numberOf side d) (λ q. isBetter side p q ≡ true)
-      (λ q x b. omega (arith, rank-better side p q (h .0) b, place-below g)) prices (s .0)) paragraphs)
+      (λ q x b. omega (arith, rank-better side p q (h .0) b, number-below g)) prices (s .0)) paragraphs)
 
   -- the number of a paragraph's group at one of the prices
-  cell-member : (prices : List ℕ) (p : ℕ) → List·Memᴰ p prices → (j : ℕ) → j < 5 → List·Memᴰ (8 * rankOn side p + j) (map (numberOf side) (cellsOver prices))
-  cell-member (q ∷ prices) p (List·Memᴰ·head e) j h = rw e (go j h)
+  cell-member : (prices : List ℕ) (p : ℕ) → List·Memᴰ p prices → (g : Paragraph) → List·Memᴰ (cell side p g) (map (numberOf side) (cellsOver prices))
+  cell-member (q ∷ prices) p (List·Memᴰ·head e) g = rw e (go g)
     where
-      more : List ℕ
-      more = map (numberOf side) (cellsOver prices)
-
-      go : (j : ℕ) → j < 5 → List·Memᴰ (8 * rankOn side q + j) (map (numberOf side) (cellsOver (q ∷ prices)))
-      go zero l = List·Memᴰ·head refl
-      go (suc zero) l = List·Memᴰ·tail (List·Memᴰ·head refl)
-      go (suc (suc zero)) l = List·Memᴰ·tail (List·Memᴰ·tail (List·Memᴰ·head refl))
-      go (suc (suc (suc zero))) l = List·Memᴰ·tail (List·Memᴰ·tail (List·Memᴰ·tail (List·Memᴰ·head refl)))
-      go (suc (suc (suc (suc zero)))) l = List·Memᴰ·tail (List·Memᴰ·tail (List·Memᴰ·tail (List·Memᴰ·tail (List·Memᴰ·head refl))))
-      go (suc (suc (suc (suc (suc j))))) l = absurd (omega arith)
-  cell-member (q ∷ prices) p (List·Memᴰ·tail m) j h =
-      List·Memᴰ·tail (List·Memᴰ·tail (List·Memᴰ·tail (List·Memᴰ·tail (List·Memᴰ·tail (cell-member prices p m j h)))))
+      go : (g : Paragraph) → List·Memᴰ (cell side q g) (map (numberOf side) (cellsOver (q ∷ prices)))
+      go Two = List·Memᴰ·head refl
+      go Three = List·Memᴰ·tail (List·Memᴰ·head refl)
+      go Four = List·Memᴰ·tail (List·Memᴰ·tail (List·Memᴰ·head refl))
+      go Five = List·Memᴰ·tail (List·Memᴰ·tail (List·Memᴰ·tail (List·Memᴰ·head refl)))
+      go Six = List·Memᴰ·tail (List·Memᴰ·tail (List·Memᴰ·tail (List·Memᴰ·tail (List·Memᴰ·head refl))))
+  cell-member (q ∷ prices) p (List·Memᴰ·tail m) g =
+      List·Memᴰ·tail (List·Memᴰ·tail (List·Memᴰ·tail (List·Memᴰ·tail (List·Memᴰ·tail (cell-member prices p m g)))))
 
 module _ (lot : ℕ) (alg : Algorithm) (i : Incoming) (os : List Order) (s : Every OrderSound os) where
   abbrev t : Taker
@@ -119,9 +118,11 @@ module _ (lot : ℕ) (alg : Algorithm) (i : Incoming) (os : List Order) (s : Eve
           → Every Within (consIf b (partKey lot alg (t .side) p o) (keysFrom lot alg i (suc p) xs))
       go true e r =
           let a = and-true (isTradable t o) (leb (minimumOf (o .kind)) (i .size .0)) e in
-          let n = levels-have t os o (m o (List·Memᴰ·head refl)) (a .0) in (
+          let n = levels-have t os o (m o (List·Memᴰ·head refl)) (a .0) in
+          let j = paragraphFor lot alg (o .kind) (sizeOf o) in (
             rw (part-group lot alg (t .side) p (omega arith) o (order-facts o (f .0)))
-                (cell-member (t .side) (priceLevels t os) (priceOf o) n (paragraphPlace lot alg (o .kind) (sizeOf o)) (place-few lot alg (o .kind) (sizeOf o))),
+                (subst (λ (j : ℕ). List·Memᴰ (8 * rankOn (t .side) (priceOf o) + j) (map (numberOf (t .side)) cells)) (number-back j (for-numbered lot alg (o .kind) (sizeOf o)))
+                (cell-member (t .side) (priceLevels t os) (priceOf o) n (paragraphNumbered j))),
             r,
           )
       go false e r = r

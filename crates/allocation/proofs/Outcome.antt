@@ -1,6 +1,6 @@
 -- The way through the keys that an incoming order needs, in their order, is the definition's: its executions, the shares left, and what each
 -- order loses.
-use Prim.Native.Nat.{ℕ, _+_, _-_, _≤_, _<_}
+use Prim.Native.Nat.{ℕ, _+_, _≤_, _<_}
 use mathlib.Core.Path.{_≡_, refl, sym, ap, _∙_}
 use mathlib.Core.Bool.{Bool, true, false, not, _&&_, true≢false}
 use mathlib.Core.List.{List, [], _∷_, map, List·Memᴰ}
@@ -27,12 +27,12 @@ use Rattle.matching.specs.Levels.{priceLevels}
 use Rattle.matching.specs.Take.{used, allocations, executionsOf, lossesOf}
 use Rattle.parts.specs.Key.{rankIn, groupIn, paragraphIn, sharesIn}
 use Rattle.parts.specs.Parts.{rankOn, keysFrom}
-use Rattle.parts.specs.Narrowed.{minimumPlace, ofRank, freeShares, Narrowed}
+use Rattle.parts.specs.Narrowed.{minimumParagraph, ofRank, freeShares, Narrowed}
 use Rattle.parts.specs.Arranged.{Arranged}
-use Rattle.allocation.specs.Walk.{Walks, executionOf, fillsOf, gotAt}
+use Rattle.allocation.specs.Walk.{Walks, executionsFrom, gotAt}
 use Rattle.allocation.specs.Ready.{Ready}
 use Rattle.allocation.proofs.Rows.{row-rising}
-use Rattle.allocation.proofs.Cells.{ofGroup, place-below, Beside, cell-row}
+use Rattle.allocation.proofs.Cells.{ofGroup, number-below, Beside, cell-row}
 use Rattle.allocation.proofs.Along.{Cell, numberOf, Fine, along, along-over}
 use Rattle.allocation.proofs.Walking.{Agree, Held, walk-agrees}
 use Rattle.allocation.proofs.Levels.{cells, cells-fine, cells-ascend, keys-within}
@@ -57,12 +57,12 @@ free-filter alg rank [] = refl
 free-filter alg rank (k ∷ keys) = go (ofRank rank k) (free-filter alg rank keys)
   where
     go : (b : Bool) → total (freeShares alg rank) keys ≡ total (free alg) (filter (ofRank rank) keys)
-        → orZero (b && not (eqb (paragraphIn (groupIn k)) (minimumPlace alg))) (sharesIn k) + total (freeShares alg rank) keys
+        → orZero (b && not (eqb (paragraphIn (groupIn k)) (minimumParagraph alg))) (sharesIn k) + total (freeShares alg rank) keys
         ≡ total (free alg) (consIf b k (filter (ofRank rank) keys))
     go true r = ap (λ n. free alg k + n) r
     go false r = omega arith
 
-module _ (lot : ℕ) (hasLot : 0 < lot) (alg : Algorithm) (i : Incoming) (small : i .size .0 ≤ 999999) (at : ℕ → Order) (os : List Order)
+module _ (lot : ℕ) (hasLot : 0 < lot) (alg : Algorithm) (i : Incoming) (at : ℕ → Order) (os : List Order)
     (s : OrdersSound os) (few : length os ≤ 256) (b : Beside at 0 os) where
   abbrev t : Taker
   t = i .taker
@@ -78,7 +78,7 @@ module _ (lot : ℕ) (hasLot : 0 < lot) (alg : Algorithm) (i : Incoming) (small 
   cell-rises c f = row-rising at (c .0) (numberOf (t .side) c) size (cell-row lot alg i at (c .0) (f .0) (f .1) (c .1) 0 os b (s .each) (omega arith))
 
   abbrev HeldIn : Cell → List ℕ → List ℕ → ℕ → Type 0
-  HeldIn = Held lot hasLot alg i small at os s few b
+  HeldIn = Held lot hasLot alg i at os s few b
 
   -- where all keys are there, so are those of every cell
   held-all : (c : Cell) → Fine t c → (gets : List ℕ) → HeldIn c (sorted all) gets size
@@ -95,7 +95,7 @@ module _ (lot : ℕ) (hasLot : 0 < lot) (alg : Algorithm) (i : Incoming) (small 
       go : Dec (rankOn (t .side) (c .0) ≤ rank) → HeldIn c (sorted (filter (ofRank rank) all)) gets size
       go (yes h) =
           let in-rank : Every (λ k. ofGroup number k ≡ true → ofRank rank k ≡ true) all =
-          every-weaken (λ k l x. eq-eqb (rankIn k) rank (omega (arith, eqb-true (groupIn k) number x, place-below (c .1)))) all low in
+          every-weaken (λ k l x. eq-eqb (rankIn k) rank (omega (arith, eqb-true (groupIn k) number x, number-below (c .1)))) all low in
           Held.complete (
           filter-sorted (ofGroup number) (filter (ofRank rank) all)
           ∙ ap sorted (filter-within (ofRank rank) (ofGroup number) all in-rank)
@@ -145,15 +145,15 @@ module _ (lot : ℕ) (hasLot : 0 < lot) (alg : Algorithm) (i : Incoming) (small 
 
     agreed : Agree at os (along lot alg t os (cells lot alg i os (s .each)) size) keys gets
     agreed =
-        walk-agrees lot hasLot alg i small at os s few b (cells lot alg i os (s .each)) (cells-fine lot alg i os (s .each)) (cells-ascend lot alg i os (s .each))
+        walk-agrees lot hasLot alg i at os s few b (cells lot alg i os (s .each)) (cells-fine lot alg i os (s .each)) (cells-ascend lot alg i os (s .each))
         keys gets size w (omega arith) within held
 
     rows : allocations lot alg i os ≡ along lot alg t os (cells lot alg i os (s .each)) size
     unfolding allocations
     rows = along-over lot alg t os (priceLevels t os) size
 
-    -- the executions are those of the fills
-    pub walk-executions : executionsOf os (allocations lot alg i os) ≡ map (executionOf at) (fillsOf keys gets)
+    -- the executions are those of the parts
+    pub walk-executions : executionsOf os (allocations lot alg i os) ≡ executionsFrom at keys gets
     walk-executions = rw rows (agreed .executes)
 
     -- as many shares are used up

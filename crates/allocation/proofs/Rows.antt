@@ -1,7 +1,6 @@
 -- What a paragraph allots at a price, beside all orders of a book, and what the parts of its group get, beside their keys: the same.
 use Prim.Native.Nat.{ℕ, zero, suc, _+_, _<_}
 use mathlib.Core.Path.{_≡_, refl, sym, ap, ap₂, _∙_}
-use mathlib.Core.Bool.{Bool, true, false}
 use mathlib.Core.List.{List, [], _∷_, map}
 use native.Mathlib.Omega.{arith}
 use native.Mathlib.Nat.{zero-add}
@@ -15,11 +14,9 @@ use Rattle.sharing.specs.Rank.{Part}
 use Rattle.sharing.proofs.Thin.{Thin}
 use Rattle.orders.specs.declared.order.Order.{Order}
 use Rattle.orders.specs.Order.{priceOf}
-use Rattle.matching.specs.Paragraph.{paragraphNumber}
 use Rattle.matching.specs.Take.{executionsBy}
-use Rattle.parts.specs.Key.{groupIn, placeIn, withShares}
-use Rattle.parts.proofs.Keys.{with-group, with-place, with-shares}
-use Rattle.allocation.specs.Walk.{paragraphOf, partIn, executionOf, fillsOf, gotAt}
+use Rattle.parts.specs.Key.{groupIn, paragraphIn, placeIn}
+use Rattle.allocation.specs.Walk.{partIn, executionIn, executionsFrom, gotAt}
 use Rattle.allocation.proofs.LeftOut.{Idle}
 
 module _ (at : ℕ → Order) (price group bound : ℕ) where
@@ -87,26 +84,15 @@ module _ (at : ℕ → Order) (price group bound : ℕ) where
         rw s (row-got r (z .1) j (omega arith))
 
     -- the executions are the same
-    pub row-executions : {p : ℕ} {os : List Order} {parts : List Part} {keys : List ℕ} → Row p os parts keys → Given parts → Every (λ q. f q < 1048576) parts
-        → executionsBy (paragraphNumber (paragraphOf group)) price os (map f parts) ≡ map (executionOf at) (fillsOf keys (gets keys))
-    row-executions (Row.none p) z l = refl
-    row-executions (Row.keep {p = p} {key = key} {o = o} {os = os} {part = part} {parts = parts} {keys = keys} a e k g q r) z l =
-        rw q (go (ltb 0 n) (row-executions r (z .1) (l .1)))
+    pub row-executions : {p : ℕ} {os : List Order} {parts : List Part} {keys : List ℕ} → Row p os parts keys → Given parts
+        → executionsBy (paragraphIn group) price os (map f parts) ≡ executionsFrom at keys (gets keys)
+    row-executions (Row.none p) z = refl
+    row-executions (Row.keep {p = p} {key = key} {o = o} a e k g q r) z = rw q (ap₂ (consIf (ltb 0 n)) one (row-executions r (z .1)))
       where
         n : ℕ
         n = f (partIn at key)
 
-        low : n < 1048576
-        low = rw q at (l .0)
-
-        one : record { number = o .number; price = record { 0 = price }; shares = record { 0 = n }; paragraph = paragraphNumber (paragraphOf group) }
-            ≡ executionOf at (withShares n key)
-        one = rw (with-place n key low, with-group n key low, with-shares n key low, k, g, a, ← e)
-
-        go : (b : Bool) → executionsBy (paragraphNumber (paragraphOf group)) price os (map f parts) ≡ map (executionOf at) (fillsOf keys (gets keys))
-            → consIf b (record { number = o .number; price = record { 0 = price }; shares = record { 0 = n }; paragraph = paragraphNumber (paragraphOf group) })
-            (executionsBy (paragraphNumber (paragraphOf group)) price os (map f parts))
-            ≡ map (executionOf at) (consIf b (withShares n key) (fillsOf keys (gets keys)))
-        go true i = ap₂ _∷_ one i
-        go false i = i
-    row-executions (Row.drop i r) z l = rw (z .0 i) (row-executions r (z .1) (l .1))
+        one : record { number = o .number; price = record { 0 = price }; shares = record { 0 = n }; paragraph = paragraphIn group }
+            ≡ executionIn at key n
+        one = rw (k, g, a, ← e)
+    row-executions (Row.drop i r) z = rw (z .0 i) (row-executions r (z .1))

@@ -30,8 +30,8 @@ use Rattle.matching.proofs.Parts.{stands, part-in}
 use Rattle.matching.proofs.Groups.{one-setter, hasNoMinimum, lots-no-minimum, no-minimum}
 use Rattle.matching.proofs.Entries.{orders-above}
 use Rattle.parts.specs.Key.{groupIn, paragraphIn, placeIn, sharesIn}
-use Rattle.parts.specs.Parts.{rankOn, paragraphPlace, partKey}
-use Rattle.parts.proofs.Paragraphs.{all-stand, place-few}
+use Rattle.parts.specs.Parts.{rankOn, paragraphFor, partKey}
+use Rattle.parts.proofs.Paragraphs.{all-stand, for-numbered}
 use Rattle.allocation.specs.Walk.{paragraphOf, partIn, sharedBy}
 use Rattle.allocation.specs.Ready.{Stands, Ready, Ascending}
 use Rattle.allocation.proofs.Whole.{filled-whole}
@@ -82,12 +82,12 @@ module _ (lot : ℕ) (alg : Algorithm) (t : Taker) (at : ℕ → Order) (os : Li
     key-size = ap sharesIn (w .is) ∙ part-shares lot alg (t .side) (placeIn k) low (orderOf k) key-facts
 
     -- its group: the price and the paragraph
-    group-is : groupIn k ≡ 8 * rankOn (t .side) (priceOf (orderOf k)) + paragraphPlace lot alg (orderOf k .kind) (sizeOf (orderOf k))
+    group-is : groupIn k ≡ 8 * rankOn (t .side) (priceOf (orderOf k)) + paragraphFor lot alg (orderOf k .kind) (sizeOf (orderOf k))
     group-is = ap groupIn (w .is) ∙ part-group lot alg (t .side) (placeIn k) low (orderOf k) key-facts
 
-    -- the place of its paragraph is that of its order
-    pub key-paragraph : paragraphIn (groupIn k) ≡ paragraphPlace lot alg (orderOf k .kind) (sizeOf (orderOf k))
-    key-paragraph = let l = place-few lot alg (orderOf k .kind) (sizeOf (orderOf k)) in omega (arith, group-is)
+    -- its paragraph is that of its order
+    pub key-paragraph : paragraphIn (groupIn k) ≡ paragraphFor lot alg (orderOf k .kind) (sizeOf (orderOf k))
+    key-paragraph = let l = for-numbered lot alg (orderOf k .kind) (sizeOf (orderOf k)) .most in omega (arith, group-is)
 
     pub key-stands : stands t (priceOf (orderOf k)) (groupOf lot alg (paragraphOf (groupIn k))) (orderOf k) ≡ true
     key-stands =
@@ -104,8 +104,8 @@ module _ (lot : ℕ) (alg : Algorithm) (t : Taker) (at : ℕ → Order) (os : Li
   -- keys of one group have one price
   same-price : (k q : ℕ) → Key k → Key q → groupIn k ≡ groupIn q → priceOf (orderOf k) ≡ priceOf (orderOf q)
   same-price k q w v e =
-      let x = place-few lot alg (orderOf k .kind) (sizeOf (orderOf k)) in
-      let y = place-few lot alg (orderOf q .kind) (sizeOf (orderOf q)) in
+      let x = for-numbered lot alg (orderOf k .kind) (sizeOf (orderOf k)) .most in
+      let y = for-numbered lot alg (orderOf q .kind) (sizeOf (orderOf q)) .most in
       rank-same (t .side) (priceOf (orderOf k)) (priceOf (orderOf q)) (key-facts k w .price-most) (key-facts q v .price-most)
       (omega (arith, group-is k w, group-is q v))
 

@@ -1,7 +1,7 @@
 -- What an incoming order's way through the keys gives is what the allocations along all paragraphs of all price levels give.
-use Prim.Native.Nat.{ℕ, _+_, _-_, _≤_, _<_}
+use Prim.Native.Nat.{ℕ, _-_, _≤_, _<_}
 use mathlib.Core.Path.{_≡_, refl, sym, ap, ap₂, _∙_}
-use mathlib.Core.List.{List, [], _∷_, _++_, map, map-append, append-nil, List·Memᴰ, List·Memᴰ·head, List·Memᴰ·tail, List·Memᴰ·not-nil}
+use mathlib.Core.List.{List, [], _∷_, _++_, map, append-nil, List·Memᴰ, List·Memᴰ·head, List·Memᴰ·tail, List·Memᴰ·not-nil}
 use native.Mathlib.Omega.{arith}
 use lib.ListN.{length, getD}
 use borrow.Author.Tests.{eq-eqb, ne-eqb}
@@ -16,15 +16,15 @@ use Rattle.matching.specs.declared.incoming.Incoming.{Incoming}
 use Rattle.matching.specs.Take.{Allocation, used, allocationAt, executionsOf}
 use Rattle.parts.specs.Key.{groupIn}
 use Rattle.parts.specs.Parts.{keysFrom}
-use Rattle.allocation.specs.Walk.{Walks, sharedBy, executionOf, fillsOf, gotAt}
+use Rattle.allocation.specs.Walk.{Walks, sharedBy, executionsFrom, gotAt}
 use Rattle.allocation.proofs.Cells.{ofGroup, Beside}
 use Rattle.allocation.proofs.Groups.{Allots, cell-allots}
 use Rattle.allocation.proofs.Along.{Cell, numberOf, Ascends, Fine, along}
-use Rattle.allocation.proofs.Gets.{fills-append, got-append, got-within, fills-none, sum-none}
+use Rattle.allocation.proofs.Gets.{executions-append, got-append, got-within, executions-none, sum-none}
 
 -- Allocations beside the orders of a book, and numbers beside keys, give the same.
 pub record Agree (at : ℕ → Order) (os : List Order) (rows : List Allocation) (keys gets : List ℕ) : Type 0 where
-  pub executes : executionsOf os rows ≡ map (executionOf at) (fillsOf keys gets)
+  pub executes : executionsOf os rows ≡ executionsFrom at keys gets
   pub uses : total used rows ≡ sum gets
   pub gives : (j : ℕ) → j < length os → total (λ a. getD (a .allotment) j 0) rows ≡ gotAt j keys gets
 
@@ -39,9 +39,7 @@ module _ (at : ℕ → Order) (os : List Order) where
   unfolding executionsOf
   agree-more keys later gets more a r = record {
     executes =
-        ap₂ _++_ (a .executes) (r .executes)
-        ∙ sym (map-append (executionOf at) (fillsOf keys gets) (fillsOf later more))
-        ∙ ap (map (executionOf at)) (sym (fills-append keys later gets more (a .many)));
+        ap₂ _++_ (a .executes) (r .executes) ∙ sym (executions-append at keys later gets more (a .many));
     uses = omega (arith, a .uses, r .uses, total-append (λ n. n) gets more);
     gives = λ j h. omega (arith, a .gives j h, r .gives j h, got-append j keys later gets more (a .many));
   }
@@ -51,7 +49,7 @@ module _ (at : ℕ → Order) (os : List Order) where
   agree-zeros r keys =
       let z = sum-none keys in
       record {
-        executes = r .executes ∙ ap (map (executionOf at)) (sym (fills-none keys (map (λ k. 0) keys) z));
+        executes = r .executes ∙ sym (executions-none at keys (map (λ k. 0) keys) z);
         uses = r .uses ∙ sym z;
         gives = λ j h. omega (arith, r .gives j h, got-within j keys (map (λ k. 0) keys));
       }
@@ -59,14 +57,14 @@ module _ (at : ℕ → Order) (os : List Order) where
   -- an allocation of nothing
   allots-none : {row : Allocation} (keys gets : List ℕ) {left : ℕ} → Allots at os keys gets left row → sum gets ≡ 0 → Allots at os [] [] left row
   allots-none keys gets a z = record {
-    executes = a .executes ∙ ap (map (executionOf at)) (fills-none keys gets z);
+    executes = a .executes ∙ executions-none at keys gets z;
     uses = a .uses ∙ z;
     gives = λ j h. omega (arith, a .gives j h, got-within j keys gets);
     many = refl;
     within = a .within;
   }
 
-module _ (lot : ℕ) (hasLot : 0 < lot) (alg : Algorithm) (i : Incoming) (small : i .size .0 ≤ 999999) (at : ℕ → Order) (os : List Order)
+module _ (lot : ℕ) (hasLot : 0 < lot) (alg : Algorithm) (i : Incoming) (at : ℕ → Order) (os : List Order)
     (s : OrdersSound os) (few : length os ≤ 256) (b : Beside at 0 os) where
   abbrev side : Side
   side = i .taker .side
@@ -87,7 +85,7 @@ module _ (lot : ℕ) (hasLot : 0 < lot) (alg : Algorithm) (i : Incoming) (small 
   rowsOf cs left = along lot alg (i .taker) os cs left
 
   allots : (c : Cell) → Fine (i .taker) c → (left : ℕ) → left ≤ i .size .0 → Allots at os (keysOf c) (sharedBy at lot alg (numberOf side c) (keysOf c) left) left (rowOf c left)
-  allots c f left l = cell-allots lot hasLot alg i small at os s few b (c .0) (f .0) (f .1) (c .1) left l
+  allots c f left l = cell-allots lot hasLot alg i at os s few b (c .0) (f .0) (f .1) (c .1) left l
 
   -- where no shares are left
   pub nothing-left : (cs : List Cell) → Every (Fine (i .taker)) cs → Agree at os (rowsOf cs 0) [] []

@@ -20,10 +20,10 @@ use Rattle.book.proofs.Checking.{sound-fits}
 use Rattle.parts.specs.Key.{groupIn, placeIn, sharesIn}
 use Rattle.allocation.specs.Walk.{Walks, sharedBy}
 use Rattle.allocation.specs.Stretch.{groupAt, Parted, Whole, Ends}
-use Rattle.allocation.specs.Credit.{Ledger, leftIn, Room, Credited}
+use Rattle.allocation.specs.Credit.{Ledger, leftIn, logged, Room, Credited}
 use Rattle.allocation.specs.Ready.{Ascending, Stands, Ready}
 use Rattle.allocation.specs.Sharing.{Book, Shared, Walked}
-use Rattle.allocation.proofs.Gets.{fills-none, got-within, sum-none}
+use Rattle.allocation.proofs.Gets.{fills-none, executions-none, got-within, sum-none}
 use Rattle.allocation.proofs.Crediting.{credited-none, credited-append, room-after}
 use Rattle.allocation.proofs.Stretches.{key-facts, key-size}
 use Rattle.allocation.proofs.Enough.{ready-split}
@@ -301,6 +301,7 @@ module _ (s keys : List ℕ) (lot : ℕ) (alg : Algorithm) (t : Taker) (start : 
             left = rw (n, sub-zero (leftIn now));
             count = rw (fills-none xs (map (λ k. 0) xs) n) (omega arith);
             fills = rw (fills-none xs (map (λ k. 0) xs) n) (sym (append-nil (take (now .progress .count) (now .fills))));
+            executions = λ at. rw (executions-none at xs (map (λ k. 0) xs) n) (sym (append-nil (logged at now)));
             allotment = λ i. omega (arith, got-within i xs (map (λ k. 0) xs));
             room = refl;
             records = refl;

@@ -1,14 +1,16 @@
 -- What parts get, kept: the fills, what each record got, how many fills there are, and what is left of the incoming order.
 use Prim.Native.Nat.{ℕ, _+_, _≤_, _<_}
 use mathlib.Core.Path.{_≡_}
-use mathlib.Core.List.{List, _++_}
+use mathlib.Core.List.{List, _++_, map}
 use lib.ListN.{length, getD, take}
 use Rattle.units.specs.Lists.{sum}
 use Rattle.units.proofs.Members.{Every}
+use Rattle.orders.specs.declared.order.Order.{Order}
+use Rattle.record.specs.declared.execution.Execution.{Execution}
 use Rattle.matching.specs.Incoming.{executed}
 use Rattle.parts.specs.Key.{placeIn}
 use Rattle.allocation.specs.declared.Progress.{Progress}
-use Rattle.allocation.specs.Walk.{fillsOf, gotAt}
+use Rattle.allocation.specs.Walk.{executionOf, executionsFrom, fillsOf, gotAt}
 
 -- How far an incoming order has come, with the lent fills and the lent allotment.
 pub record Ledger : Type 0 where
@@ -22,6 +24,10 @@ ledger p fills allotment = record { progress = p; fills = fills; allotment = all
 abbrev pub leftIn : Ledger → ℕ
 leftIn l = l .progress .incoming .size .0
 
+-- the executions of the fills, with these orders at the places of the records
+abbrev pub logged : (ℕ → Order) → Ledger → List Execution
+logged at l = map (executionOf at) (take (l .progress .count) (l .fills))
+
 -- There is room for so many parts' fills and an entry for each of their records, and no record got more than was taken.
 pub record Room (keys : List ℕ) (l : Ledger) : Type 0 where
   pub fills : l .progress .count + length keys ≤ length (l .fills)
@@ -33,6 +39,7 @@ pub record Credited (keys gets : List ℕ) (a b : Ledger) : Type 0 where
   pub left : b .progress .incoming ≡ executed (sum gets) (a .progress .incoming)
   pub count : b .progress .count ≡ a .progress .count + length (fillsOf keys gets)
   pub fills : take (b .progress .count) (b .fills) ≡ take (a .progress .count) (a .fills) ++ fillsOf keys gets
+  pub executions : (at : ℕ → Order) → logged at b ≡ logged at a ++ executionsFrom at keys gets
   pub allotment : (i : ℕ) → getD (b .allotment) i 0 ≡ getD (a .allotment) i 0 + gotAt i keys gets
   pub room : length (b .fills) ≡ length (a .fills)
   pub records : length (b .allotment) ≡ length (a .allotment)

@@ -7,7 +7,7 @@ use native.Mathlib.Omega.{arith}
 use borrow.Author.Tests.{ne-eqb}
 use lib.Dec.{eqb}
 use lib.ListN.{getD, take, drop}
-use Rattle.units.specs.Lists.{all, sameNumbers, total}
+use Rattle.units.specs.Lists.{all, flatMap, sameNumbers, total}
 use Rattle.units.proofs.Members.{Every}
 use Rattle.sharing.specs.declared.Rank.the-variants.{Time}
 use Rattle.sharing.specs.declared.Method.the-variants.{InTurn, Lots, Setter}
@@ -18,15 +18,16 @@ use Rattle.orders.specs.declared.order.Side.the-variants.{Buy, Sell}
 use Rattle.orders.specs.declared.order.Kind.{Kind}
 use Rattle.orders.specs.declared.order.Kind.the-variants.{Displayed, MinimumQuantity}
 use Rattle.orders.specs.declared.order.Order.{Order}
+use Rattle.record.specs.declared.execution.Execution.{Execution}
 use Rattle.record.specs.Codec.{encode, decode}
 use Rattle.record.specs.Record.{numbersOf, orderOf, numbersSound}
 use Rattle.book.specs.Sound.{sound, ordersOf, bookOf, orderAt}
 use Rattle.matching.specs.declared.Algorithm.the-variants.{PriceTime, ProRata}
 use Rattle.matching.specs.Paragraph.{paragraphNumber}
 use Rattle.parts.specs.Key.{keyOf, groupIn, placeIn, sharesIn}
-use Rattle.allocation.specs.Walk.{paragraphOf, partIn, executionOf, sharedBy, Walks, none, ended, next, fillsOf, gotAt}
+use Rattle.allocation.specs.Walk.{paragraphOf, partIn, executionIn, executionsFrom, executionOf, sharedBy, Walks, none, ended, next, fillsOf, gotAt}
 use Rattle.allocation.specs.Stretch.{groupAt, Parted, Whole, Ends}
-use Rattle.allocation.specs.Credit.{Ledger, ledger, leftIn, Room, Credited}
+use Rattle.allocation.specs.Credit.{Ledger, ledger, leftIn, logged, Room, Credited}
 use Rattle.allocation.specs.Ready.{Ascending, Stands}
 use Rattle.allocation.specs.Sharing.{Book, minimumIn, Columns, Shared, FirstSetter, Needed, Lent, Walked}
 
@@ -50,54 +51,71 @@ at i = orderAt book i
 
 -- their parts under pro rata with a lot of 100, in two groups
 abbrev first : ℕ
-first = keyOf 100000 0 0 300
+first = keyOf 100000 2 0 300
 
 abbrev second : ℕ
-second = keyOf 100000 0 1 200
+second = keyOf 100000 2 1 200
 
 abbrev third : ℕ
-third = keyOf 100100 3 2 400
+third = keyOf 100100 5 2 400
 
 abbrev parts : List ℕ
 parts = first ∷ second ∷ third ∷ []
 
 values : List Bool
 values =
-    -- the paragraph's place is what a group has beside the rank, and behind the last stands the last
+    -- the paragraph's number is what a group has beside the rank
     eqb (paragraphNumber (paragraphOf (groupIn first))) 2 ∷
     eqb (paragraphNumber (paragraphOf (groupIn third))) 5 ∷
-    eqb (paragraphNumber (paragraphOf 9)) 3 ∷
-    eqb (paragraphNumber (paragraphOf 7)) 6 ∷
+    eqb (paragraphNumber (paragraphOf 11)) 3 ∷
     -- a part has its own shares, and the number, minimum and mark of its order
-    eqb (partIn at (keyOf 100100 3 2 120) .size) 120 ∷
+    eqb (partIn at (keyOf 100100 5 2 120) .size) 120 ∷
     eqb (partIn at third .number) 11 ∷
     eqb (partIn at third .minimum) 50 ∷
     eqb (minimumIn book third) 50 ∷
     eqb (minimumIn book second) 0 ∷
     partIn at second .setter ∷
-    -- so has an execution
-    eqb (executionOf at (keyOf 100100 3 2 120) .number) 11 ∷
-    eqb (executionOf at (keyOf 100100 3 2 120) .price .0) 100100 ∷
-    eqb (executionOf at (keyOf 100100 3 2 120) .shares .0) 120 ∷
-    eqb (executionOf at (keyOf 100100 3 2 120) .paragraph) 5 ∷
     -- those that got shares
-    sameNumbers (fillsOf parts (100 ∷ 0 ∷ 50 ∷ [])) (keyOf 100000 0 0 100 ∷ keyOf 100100 3 2 50 ∷ []) ∷
-    sameNumbers (fillsOf parts (1 ∷ [])) (keyOf 100000 0 0 1 ∷ []) ∷
+    sameNumbers (fillsOf parts (100 ∷ 0 ∷ 50 ∷ [])) (keyOf 100000 2 0 100 ∷ keyOf 100100 5 2 50 ∷ []) ∷
+    sameNumbers (fillsOf parts (1 ∷ [])) (keyOf 100000 2 0 1 ∷ []) ∷
     -- the first and the last are of one record
     eqb (gotAt 1 (keyOf 0 0 1 1 ∷ keyOf 0 0 0 2 ∷ keyOf 1 0 1 3 ∷ []) (10 ∷ 20 ∷ 30 ∷ [])) 40 ∷
-    eqb (groupAt parts 2) 800803 ∷ []
+    eqb (groupAt parts 2) 800805 ∷ []
 
 values-worked : all (λ b. b) values ≡ true
 unfolding values book order bookOf encode decode numbersOf orderOf
 values-worked = refl
 
+-- a buy of so many shares that has so many fills, in memory with these
+abbrev kept : ℕ → ℕ → List ℕ → List ℕ → Ledger
+kept left count fills allotment =
+    ledger (record { incoming = record { taker = record { side = Buy; limit = record { 0 = 100100 } }; size = record { 0 = left } }; count = count }) fills allotment
+
+-- executions: of each the number, price, shares and paragraph
+told : List Execution → List ℕ
+told es = flatMap (λ e. e .number ∷ e .price .0 ∷ e .shares .0 ∷ e .paragraph ∷ []) es
+
+named : List Bool
+named =
+    sameNumbers (told (executionIn at third 120 ∷ [])) (11 ∷ 100100 ∷ 120 ∷ 5 ∷ []) ∷
+    sameNumbers (told (executionOf at (keyOf 100100 5 2 120) ∷ [])) (11 ∷ 100100 ∷ 120 ∷ 5 ∷ []) ∷
+    -- of those that got shares
+    sameNumbers (told (executionsFrom at parts (100 ∷ 0 ∷ 1 ∷ []))) (7 ∷ 100000 ∷ 100 ∷ 2 ∷ 11 ∷ 100100 ∷ 1 ∷ 5 ∷ []) ∷
+    sameNumbers (told (executionsFrom at parts (300 ∷ []))) (7 ∷ 100000 ∷ 300 ∷ 2 ∷ []) ∷
+    -- of the fills that are counted
+    sameNumbers (told (logged at (kept 0 1 (third ∷ first ∷ []) []))) (11 ∷ 100100 ∷ 400 ∷ 5 ∷ []) ∷ []
+
+named-worked : all (λ b. b) named ≡ true
+unfolding named told book order bookOf encode decode numbersOf orderOf
+named-worked = refl
+
 -- 210 shares: by lots of 100 and of 50, by size in paragraph 3, and by time
 groups : List Bool
 groups =
-    sameNumbers (sharedBy at 100 ProRata 800000 (first ∷ second ∷ []) 210) (200 ∷ 10 ∷ []) ∷
-    sameNumbers (sharedBy at 50 ProRata 800000 (first ∷ second ∷ []) 210) (150 ∷ 60 ∷ []) ∷
-    sameNumbers (sharedBy at 100 ProRata 800001 (second ∷ first ∷ []) 210) (0 ∷ 210 ∷ []) ∷
-    sameNumbers (sharedBy at 100 PriceTime 800001 (second ∷ first ∷ []) 210) (200 ∷ 10 ∷ []) ∷ []
+    sameNumbers (sharedBy at 100 ProRata 800002 (first ∷ second ∷ []) 210) (200 ∷ 10 ∷ []) ∷
+    sameNumbers (sharedBy at 50 ProRata 800002 (first ∷ second ∷ []) 210) (150 ∷ 60 ∷ []) ∷
+    sameNumbers (sharedBy at 100 ProRata 800003 (second ∷ first ∷ []) 210) (0 ∷ 210 ∷ []) ∷
+    sameNumbers (sharedBy at 100 PriceTime 800003 (second ∷ first ∷ []) 210) (200 ∷ 10 ∷ []) ∷ []
 
 groups-worked : all (λ b. b) groups ≡ true
 unfolding groups book order bookOf encode decode numbersOf orderOf sharedBy lotSharing goesRound round
@@ -164,11 +182,6 @@ ends-early h = not-parted (h .parted)
 ends-late : Ends parts 0 3 → ⊥
 ends-late h = omega (arith, h .same 2 (omega arith) (omega arith))
 
--- a buy of so many shares that has so many fills, in memory with these
-abbrev kept : ℕ → ℕ → List ℕ → List ℕ → Ledger
-kept left count fills allotment =
-    ledger (record { incoming = record { taker = record { side = Buy; limit = record { 0 = 100100 } }; size = record { 0 = left } }; count = count }) fills allotment
-
 abbrev start : Ledger
 start = kept 600 1 (7 ∷ 0 ∷ 0 ∷ 0 ∷ []) (5 ∷ 0 ∷ 0 ∷ [])
 
@@ -197,14 +210,19 @@ nobody i a b c =
     rw (other (placeIn first) (omega arith), other (placeIn second) (omega arith), other (placeIn third) (omega arith))
 
 -- the parts get 300, nothing and 100; what lies behind the fills may be anything
-credited : Credited parts (300 ∷ 0 ∷ 100 ∷ []) start (kept 200 3 (7 ∷ first ∷ keyOf 100100 3 2 100 ∷ 9 ∷ []) (305 ∷ 0 ∷ 100 ∷ []))
-credited = record { left = refl; count = refl; fills = refl; allotment = allotment; room = refl; records = refl }
+credited : Credited parts (300 ∷ 0 ∷ 100 ∷ []) start (kept 200 3 (7 ∷ first ∷ keyOf 100100 5 2 100 ∷ 9 ∷ []) (305 ∷ 0 ∷ 100 ∷ []))
+credited = record { left = refl; count = refl; fills = refl; executions = λ at. refl; allotment = allotment; room = refl; records = refl }
   where
     allotment : (i : ℕ) → getD (305 ∷ 0 ∷ 100 ∷ []) i 0 ≡ getD (5 ∷ 0 ∷ 0 ∷ []) i 0 + gotAt i parts (300 ∷ 0 ∷ 100 ∷ [])
     allotment zero = refl
     allotment (suc zero) = refl
     allotment (suc (suc zero)) = refl
     allotment (suc (suc (suc i))) = omega (arith, nobody i 300 0 100)
+
+-- a fill that names paragraph 3, of a part that got its shares in paragraph 2
+misnamed : Credited (first ∷ []) (300 ∷ []) (kept 300 0 (0 ∷ []) (0 ∷ [])) (kept 0 1 (keyOf 100000 3 0 300 ∷ []) (300 ∷ [])) → ⊥
+unfolding book order bookOf encode decode numbersOf orderOf
+misnamed h = let e : _≡_ {A = ℕ} 3 2 = ap (λ es. total (λ e. e .paragraph) es) (h .executions at) in omega arith
 
 -- each key is below all behind it, not only below the next
 ascending : Ascending parts
@@ -221,14 +239,14 @@ stands = (
   (record { within = omega arith; opposite = refl; is = refl }, (record { within = omega arith; opposite = refl; is = refl }, tt)),
 )
 
-same-side : Stands at 3 100 ProRata Sell (keyOf 4294867295 0 0 300) → ⊥
+same-side : Stands at 3 100 ProRata Sell (keyOf 4294867295 2 0 300) → ⊥
 unfolding book order bookOf encode decode numbersOf orderOf
 same-side h = false≢true (h .opposite)
 
 behind-all : Stands at 2 100 ProRata Buy third → ⊥
 behind-all h = omega (arith, h .within)
 
-other-shares : Stands at 3 100 ProRata Buy (keyOf 100000 0 0 299) → ⊥
+other-shares : Stands at 3 100 ProRata Buy (keyOf 100000 2 0 299) → ⊥
 unfolding book order bookOf encode decode numbersOf orderOf
 other-shares h = omega (arith, h .is)
 
@@ -287,11 +305,11 @@ unfolding book order bookOf encode decode numbersOf orderOf
 other-place h = false≢true h
 
 -- the way of 600 shares, kept
-walked : Walked book parts 100 ProRata (kept 600 0 (0 ∷ 0 ∷ 0 ∷ []) (0 ∷ 0 ∷ 0 ∷ [])) (kept 0 3 (first ∷ second ∷ keyOf 100100 3 2 100 ∷ []) (300 ∷ 200 ∷ 100 ∷ []))
+walked : Walked book parts 100 ProRata (kept 600 0 (0 ∷ 0 ∷ 0 ∷ []) (0 ∷ 0 ∷ 0 ∷ [])) (kept 0 3 (first ∷ second ∷ keyOf 100100 5 2 100 ∷ []) (300 ∷ 200 ∷ 100 ∷ []))
 walked = record {
   gets = 300 ∷ 200 ∷ 100 ∷ [];
   walks = two-groups;
-  credited = record { left = refl; count = refl; fills = refl; allotment = allotment; room = refl; records = refl };
+  credited = record { left = refl; count = refl; fills = refl; executions = λ at. refl; allotment = allotment; room = refl; records = refl };
 }
   where
     allotment : (i : ℕ) → getD (300 ∷ 200 ∷ 100 ∷ []) i 0 ≡ getD (0 ∷ 0 ∷ 0 ∷ []) i 0 + gotAt i parts (300 ∷ 200 ∷ 100 ∷ [])

@@ -3,7 +3,6 @@ use Prim.Native.Nat.{ℕ, _-_, _<_}
 use mathlib.Core.Path.{_≡_}
 use mathlib.Core.List.{List, [], _∷_, _++_, map}
 use lib.Dec.{ltb, eqb}
-use lib.ListN.{getD}
 use Rattle.units.specs.Lists.{consIf, orZero, sum, zipWith}
 use Rattle.units.proofs.Members.{Every}
 use Rattle.sharing.specs.Rank.{Part}
@@ -13,13 +12,13 @@ use Rattle.orders.specs.Order.{minimumOf}
 use Rattle.record.specs.declared.execution.Execution.{Execution}
 use Rattle.matching.specs.declared.Algorithm.{Algorithm}
 use Rattle.matching.specs.declared.Paragraph.{Paragraph}
-use Rattle.matching.specs.declared.Paragraph.the-variants.{Six}
-use Rattle.matching.specs.Paragraph.{paragraphs, paragraphNumber, methodOf}
+use Rattle.matching.specs.Paragraph.{methodOf}
+use Rattle.matching.specs.Numbered.{paragraphNumbered}
 use Rattle.parts.specs.Key.{groupIn, paragraphIn, placeIn, sharesIn, withShares}
 
 -- the paragraph of a group
 abbrev pub paragraphOf : ℕ → Paragraph
-paragraphOf group = getD paragraphs (paragraphIn group) Six
+paragraphOf group = paragraphNumbered (paragraphIn group)
 
 -- The orders of a book by the places of their records.
 module _ (at : ℕ → Order) where
@@ -29,16 +28,21 @@ module _ (at : ℕ → Order) where
       let o = at (placeIn key) in
       record { number = o .number; size = sharesIn key; minimum = minimumOf (o .kind); setter = o .setter }
 
-  -- the execution of a part with the shares that it got
+  -- the execution of n shares of a part: it names the paragraph of its group
+  abbrev pub executionIn : ℕ → ℕ → Execution
+  executionIn key n =
+      let o = at (placeIn key) in
+      record { number = o .number; price = o .price; shares = record { 0 = n }; paragraph = paragraphIn (groupIn key) }
+
+  -- one for each part that received shares
+  abbrev pub executionsFrom : List ℕ → List ℕ → List Execution
+  executionsFrom [] gets = []
+  executionsFrom (k ∷ keys) [] = []
+  executionsFrom (k ∷ keys) (n ∷ gets) = consIf (ltb 0 n) (executionIn k n) (executionsFrom keys gets)
+
+  -- the execution that a fill is of: a part with the shares that it got
   abbrev pub executionOf : ℕ → Execution
-  executionOf fill =
-      let o = at (placeIn fill) in
-      record {
-        number = o .number;
-        price = o .price;
-        shares = record { 0 = sharesIn fill };
-        paragraph = paragraphNumber (paragraphOf (groupIn fill));
-      }
+  executionOf fill = executionIn fill (sharesIn fill)
 
   module _ (lot : ℕ) (alg : Algorithm) where
     -- what the parts of a group get of the shares left

@@ -4,6 +4,7 @@ use crate::credit;
 use book::records;
 use book::records::RECORD_BYTES;
 use matching::Algorithm;
+use matching::Paragraph;
 use parts::key;
 use sharing::Method;
 use units::Shares;
@@ -103,7 +104,7 @@ pub(crate) fn share(
         (ledger from (now (fills .entry)) (now (allotment .entry))) (ledger r (now (fills .exit)) (now (allotment .exit))) ⌝ }
 {
     let incoming = from.incoming;
-    let paragraph = key::paragraph(keys[0]);
+    let paragraph = Paragraph::of(key::paragraph(keys[0]));
     let method = paragraph.method(algorithm);
     let total = sizes_of(keys, sizes);
     let setter = needs(book, keys, method, minimums);

@@ -18,6 +18,11 @@ pub(crate) fn number(n: u32) {
     io::print_decimal(STDOUT_FILENO, n as u64);
 }
 
+// A byte as a number.
+fn byte(b: u8) {
+    number(b as u32);
+}
+
 // The smaller of two counts.
 fn least(a: usize, b: usize) -> usize
     ensures { λ r. ⌜ (r ≤ a) × (r ≤ b) ⌝ }
@@ -56,11 +61,12 @@ pub(crate) fn call(side: u32, limit: u32, size: u32, algorithm: u32) {
     text(b"\n");
 }
 
-// The execution that begins at a byte: its mark, and the order's number, price and shares.
+// The execution that begins at a byte: its mark, its paragraph, and the order's number, price and shares.
 fn execution(buffer: &[u8], at: usize)
     requires { ⌜ at + 16 ≤ length (now buffer) ⌝ }
 {
     text(&buffer[at..at + 2]);
+    byte(buffer[at + 2]);
     number(bytes::read_u32(buffer, at + 4));
     number(bytes::read_u32(buffer, at + 8));
     number(bytes::read_u32(buffer, at + 12));

@@ -13,11 +13,9 @@ use Rattle.units.proofs.Members.{every-member}
 use Rattle.units.proofs.Totals.{total-add, total-append, total-le, total-none, total-same}
 use Rattle.sharing.specs.Rank.{Part, partSize}
 use Rattle.orders.specs.declared.order.Side.{Side}
-use Rattle.orders.specs.declared.order.Kind.{Kind}
-use Rattle.orders.specs.declared.order.Kind.the-variants.{Displayed, NonDisplayed, MinimumQuantity}
 use Rattle.orders.specs.declared.order.Order.{Order}
 use Rattle.orders.specs.declared.order.Taker.{Taker}
-use Rattle.orders.specs.Order.{Visibility, shown, hidden, sharesOf, onlyOf, interestBy, interestOf, isMinimumQuantity, priceOf, sizeOf}
+use Rattle.orders.specs.Order.{priceOf}
 use Rattle.orders.specs.Trading.{isOppositeOf, isBetter}
 use Rattle.book.specs.Sound.{rising}
 use Rattle.matching.specs.declared.Algorithm.{Algorithm}
@@ -29,7 +27,7 @@ use Rattle.matching.specs.Paragraph.{groupOf, inGroup, partOf, paragraph
 use Rattle.matching.specs.Take.{Allocation, used, allocationAt, allocationsAt, allocationsOver, allocations, executionsBy, executionsOf}
 use Rattle.matching.proofs.Levels.{Sorted, levels-sorted, better-apart}
 use Rattle.matching.proofs.Parts.{stands, part-out, allotShare, partsAt, allotted, part-none}
-use Rattle.matching.proofs.Places.{sameVisibility, passing-one}
+use Rattle.matching.proofs.Places.{groupHome, elsewhere}
 
 module _ {A : Type 0} where
   -- how many elements pass a test
@@ -78,36 +76,16 @@ number-once Four = refl
 number-once Five = refl
 number-once Six = refl
 
--- an order's shares are of one visibility
-one-visibility : (o : Order) → (v : Visibility) × (interestOf o ≡ onlyOf v (sizeOf o))
-one-visibility o = go (o .kind)
-  where
-    go : (k : Kind) → (v : Visibility) × (interestBy k (sizeOf o) ≡ onlyOf v (sizeOf o))
-    go Displayed = (shown, refl)
-    go NonDisplayed = (hidden, refl)
-    go (MinimumQuantity m) = (hidden, refl)
-
--- shares of one visibility fail a group's test where they fail it or the group is of the other
-visible-test : (v w : Visibility) (n : ℕ) (p : ℕ → Bool) → (sameVisibility v w && p n) ≡ false
-    → (ltb 0 (sharesOf w (onlyOf v n)) && p (sharesOf w (onlyOf v n))) ≡ false
-visible-test shown shown n p e = and-false (ltb 0 n) e
-visible-test shown hidden n p e = refl
-visible-test hidden shown n p e = refl
-visible-test hidden hidden n p e = and-false (ltb 0 n) e
-
 module _ (lot : ℕ) (alg : Algorithm) where
   -- an order is in the group of at most one paragraph
   one-group : (o : Order) → count (λ g. inGroup (groupOf lot alg g) o) paragraphs ≤ 1
   one-group o =
-      let v = one-visibility o in
-      let m = isMinimumQuantity (o .kind) in
-      let one = passing-one lot alg (v .0) m (sizeOf o) in
+      let home = groupHome lot alg o in
       omega (
         arith,
-        number-once (one .place),
-        count-le (λ g. inGroup (groupOf lot alg g) o) (λ g. eqb (paragraphNumber g) (paragraphNumber (one .place))) paragraphs (λ g k e.
-            let group = groupOf lot alg g in
-            rw (v .1) (visible-test (v .0) (group .visibility) (sizeOf o) (group .holds m) (one .outside g (ap not e)))),
+        number-once home,
+        count-le (λ g. inGroup (groupOf lot alg g) o) (λ g. eqb (paragraphNumber g) (paragraphNumber home)) paragraphs
+            (λ g k e. elsewhere lot alg o g (ap not e)),
       )
 
   module _ (t : Taker) where

@@ -12,6 +12,6 @@ pub mod Losses
 pub mod Unmet
 pub mod Executed
 pub mod Taking
-pub mod Transport
 pub mod TakeFair
+pub mod TakeNamed
 pub mod Counting

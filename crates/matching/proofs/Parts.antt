@@ -8,7 +8,7 @@ use lib.ListN.{length, length-map}
 use borrow.Author.Tests.{ltb-true}
 use Rattle.units.specs.Lists.{orZero, total}
 use Rattle.units.proofs.Tests.{and-true}
-use Rattle.units.proofs.Members.{every-append}
+use Rattle.units.proofs.Members.{Every, every-append}
 use Rattle.sharing.specs.Rank.{Part, noPart, Rising}
 use Rattle.sharing.proofs.Methods.{shareBy, by-map, by-none}
 use Rattle.orders.specs.declared.order.Order.{Order}
@@ -19,7 +19,7 @@ use Rattle.book.specs.Sound.{rising}
 use Rattle.matching.specs.declared.Algorithm.{Algorithm}
 use Rattle.matching.specs.declared.Paragraph.{Paragraph}
 use Rattle.matching.specs.Paragraph.{Group, groupOf, inGroup, partOf, paragraphs, methodOf}
-use Rattle.matching.specs.Take.{used, allocationAt, allocationsAt, allocationsOver}
+use Rattle.matching.specs.Take.{Allocation, used, allocationAt, allocationsAt, allocationsOver}
 use Rattle.matching.proofs.Entries.{shareIn, lookup, Aligned}
 
 -- all that an order has of a visibility
@@ -79,20 +79,24 @@ module _ (lot : ℕ) (alg : Algorithm) (t : Taker) (os : List Order) where
   unfolding allocationAt
   allotted price g left = by-map (methodOf alg g) lot left (partsAt price g)
 
-  aligned-at : (price : ℕ) (gs : List Paragraph) (left : ℕ) → Aligned os (allocationsAt lot alg t os price gs left)
-  unfolding allocationsAt
-  aligned-at price [] left = tt
-  aligned-at price (g ∷ gs) left =
-      (rw (allotted price g left, length-map, length-map), aligned-at price gs (left - used (allocationAt lot alg t os price g left)))
+  -- what holds of every allocation holds of those over any price levels
+  module _ (P : Allocation → Type 0) (h : (price : ℕ) (g : Paragraph) (left : ℕ) → P (allocationAt lot alg t os price g left)) where
+    every-at : (price : ℕ) (gs : List Paragraph) (left : ℕ) → Every P (allocationsAt lot alg t os price gs left)
+    unfolding allocationsAt
+    every-at price [] left = tt
+    every-at price (g ∷ gs) left = (h price g left, every-at price gs (left - used (allocationAt lot alg t os price g left)))
 
-  -- the allocations over any price levels have one number for each order
+    pub every-over : (prices : List ℕ) (left : ℕ) → Every P (allocationsOver lot alg t os prices left)
+    unfolding allocationsOver
+    every-over [] left = tt
+    every-over (price ∷ prices) left =
+        let level = allocationsAt lot alg t os price paragraphs left in
+        every-append P level (allocationsOver lot alg t os prices (left - total used level)) (every-at price paragraphs left)
+        (every-over prices (left - total used level))
+
+  -- they have one number for each order
   pub aligned-over : (prices : List ℕ) (left : ℕ) → Aligned os (allocationsOver lot alg t os prices left)
-  unfolding allocationsOver
-  aligned-over [] left = tt
-  aligned-over (price ∷ prices) left =
-      let level = allocationsAt lot alg t os price paragraphs left in
-      every-append (λ a. length (a .allotment) ≡ length os) level (allocationsOver lot alg t os prices (left - total used level)) (aligned-at price paragraphs left)
-      (aligned-over prices (left - total used level))
+  aligned-over = every-over (λ a. length (a .allotment) ≡ length os) (λ price g left. rw (allotted price g left, length-map, length-map))
 
   module _ (rise : rising 0 os ≡ true) (price : ℕ) (g : Paragraph) (left : ℕ) (o : Order) (i : List·Memᴰ o os) where
     -- an order's entry is what its part gets

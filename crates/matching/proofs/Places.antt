@@ -1,19 +1,25 @@
 -- Where an order's shares stand: under each algorithm those of one visibility stand in the group of exactly one paragraph.
-use Prim.Native.Nat.{ℕ, _<_}
+use Prim.Native.Nat.{ℕ, zero, suc, _≤_, _<_}
 use mathlib.Core.Path.{_≡_, refl, sym, ap, _∙_}
 use mathlib.Core.Logic.{_⊎_, inl, inr}
-use mathlib.Core.Bool.{Bool, true, false, not, _&&_, _||_, false≢true}
+use mathlib.Core.Bool.{Bool, true, false, not, _&&_, _||_, false≢true, true≢false}
 use mathlib.Core.List.{List, [], _∷_, List·Memᴰ, List·Memᴰ·head, List·Memᴰ·tail}
+use native.Mathlib.Omega.{arith}
 use lib.Dec.{leb, ltb, eqb}
-use borrow.Author.Tests.{leb-true, leb-false, le-ltb, lt-ltb, not-true}
+use borrow.Author.Tests.{leb-true, leb-false, le-ltb, lt-ltb, eqb-true, not-true, not-false}
 use Rattle.units.specs.Lists.{all}
 use Rattle.units.proofs.Members.{Every, all-member}
-use Rattle.orders.specs.Order.{Visibility, shown, hidden, sharesOf, onlyOf}
+use Rattle.units.proofs.Tests.{and-false}
+use Rattle.orders.specs.declared.order.Kind.{Kind}
+use Rattle.orders.specs.declared.order.Kind.the-variants.{Displayed, NonDisplayed, MinimumQuantity}
+use Rattle.orders.specs.declared.order.Order.{Order}
+use Rattle.orders.specs.Order.{Visibility, shown, hidden, sharesOf, onlyOf, interestBy, interestOf, isMinimumQuantity, sizeOf}
 use Rattle.matching.specs.declared.Algorithm.{Algorithm}
 use Rattle.matching.specs.declared.Algorithm.the-variants.{PriceTime, ProRata, PriceSetter}
 use Rattle.matching.specs.declared.Paragraph.{Paragraph}
 use Rattle.matching.specs.declared.Paragraph.the-variants.{Two, Three, Four, Five, Six}
-use Rattle.matching.specs.Paragraph.{paragraphs, paragraphNumber, Group, groupOf, proRataGroup}
+use Rattle.matching.specs.Paragraph.{paragraphs, paragraphNumber, Group, groupOf, proRataGroup, inGroup}
+use Rattle.matching.specs.Numbered.{paragraphNumbered}
 
 abbrev pub sameVisibility : Visibility → Visibility → Bool
 sameVisibility shown shown = true
@@ -49,6 +55,42 @@ passes v m n g = sameVisibility v (g .visibility) && g .holds m n
 -- g is another paragraph than x
 abbrev pub other : Paragraph → Paragraph → Bool
 other g x = not (eqb (paragraphNumber g) (paragraphNumber x))
+
+-- the paragraph of a paragraph's number
+pub numbered-back : (g : Paragraph) → paragraphNumbered (paragraphNumber g) ≡ g
+numbered-back Two = refl
+numbered-back Three = refl
+numbered-back Four = refl
+numbered-back Five = refl
+numbered-back Six = refl
+
+-- paragraphs of one number are one
+same-paragraph : (g h : Paragraph) → paragraphNumber g ≡ paragraphNumber h → g ≡ h
+same-paragraph g h e = sym (numbered-back g) ∙ ap paragraphNumbered e ∙ numbered-back h
+
+-- the numbers of the paragraphs
+pub record Numbered (n : ℕ) : Type 0 where
+  pub least : 2 ≤ n
+  pub most : n ≤ 6
+
+-- a paragraph's number is one of them
+pub number-numbered : (g : Paragraph) → Numbered (paragraphNumber g)
+number-numbered Two = record { least = omega arith; most = omega arith }
+number-numbered Three = record { least = omega arith; most = omega arith }
+number-numbered Four = record { least = omega arith; most = omega arith }
+number-numbered Five = record { least = omega arith; most = omega arith }
+number-numbered Six = record { least = omega arith; most = omega arith }
+
+-- and each of them is that of its paragraph
+pub number-back : (n : ℕ) → Numbered n → paragraphNumber (paragraphNumbered n) ≡ n
+number-back zero h = absurd (omega (arith, h .least))
+number-back (suc zero) h = absurd (omega (arith, h .least))
+number-back (suc (suc zero)) h = refl
+number-back (suc (suc (suc zero))) h = refl
+number-back (suc (suc (suc (suc zero)))) h = refl
+number-back (suc (suc (suc (suc (suc zero))))) h = refl
+number-back (suc (suc (suc (suc (suc (suc zero)))))) h = refl
+number-back (suc (suc (suc (suc (suc (suc (suc n))))))) h = absurd (omega (arith, h .most))
 
 -- a test that exactly one paragraph passes
 pub record One (t : Paragraph → Bool) : Type 0 where
@@ -118,6 +160,50 @@ passing-one lot PriceSetter v m n = one-of (lot-tests v m n lot) (lot-one v m (l
 -- shares of a visibility stand in one paragraph
 pub standing-one : (lot : ℕ) (alg : Algorithm) (v : Visibility) (m : Bool) (n : ℕ) → 0 < n → One (λ g. standsIn v m n (groupOf lot alg g))
 standing-one lot alg v m n h = one-of (λ g. rw (lt-ltb 0 n h)) (passing-one lot alg v m n)
+
+-- an order's shares are of one visibility
+one-visibility : (o : Order) → (v : Visibility) × (interestOf o ≡ onlyOf v (sizeOf o))
+one-visibility o = go (o .kind)
+  where
+    go : (k : Kind) → (v : Visibility) × (interestBy k (sizeOf o) ≡ onlyOf v (sizeOf o))
+    go Displayed = (shown, refl)
+    go NonDisplayed = (hidden, refl)
+    go (MinimumQuantity m) = (hidden, refl)
+
+-- shares of one visibility fail a group's test where they fail it or the group is of the other
+visible-test : (v w : Visibility) (n : ℕ) (p : ℕ → Bool) → (sameVisibility v w && p n) ≡ false
+    → (ltb 0 (sharesOf w (onlyOf v n)) && p (sharesOf w (onlyOf v n))) ≡ false
+visible-test shown shown n p e = and-false (ltb 0 n) e
+visible-test shown hidden n p e = refl
+visible-test hidden shown n p e = refl
+visible-test hidden hidden n p e = and-false (ltb 0 n) e
+
+-- The paragraph in whose group an order is, if it is in any.
+module _ (lot : ℕ) (alg : Algorithm) (o : Order) where
+  home : One (λ g. passes (one-visibility o .0) (isMinimumQuantity (o .kind)) (sizeOf o) (groupOf lot alg g))
+  home = passing-one lot alg (one-visibility o .0) (isMinimumQuantity (o .kind)) (sizeOf o)
+
+  pub groupHome : Paragraph
+  groupHome = home .place
+
+  -- it is in no other's
+  pub elsewhere : (g : Paragraph) → other g groupHome ≡ true → inGroup (groupOf lot alg g) o ≡ false
+  unfolding groupHome
+  elsewhere g e =
+      let v = one-visibility o in
+      let group = groupOf lot alg g in
+      rw (v .1) (visible-test (v .0) (group .visibility) (sizeOf o) (group .holds (isMinimumQuantity (o .kind))) (home .outside g e))
+
+  at-home : (g : Paragraph) → inGroup (groupOf lot alg g) o ≡ true → g ≡ groupHome
+  at-home g a = go (other g groupHome) refl
+    where
+      go : (b : Bool) → other g groupHome ≡ b → g ≡ groupHome
+      go true e = absurd (true≢false (sym a ∙ elsewhere g e))
+      go false e = same-paragraph g groupHome (eqb-true (paragraphNumber g) (paragraphNumber groupHome) (not-false _ e))
+
+  -- so it is in the group of one paragraph at most
+  pub group-alone : (g h : Paragraph) → inGroup (groupOf lot alg g) o ≡ true → inGroup (groupOf lot alg h) o ≡ true → h ≡ g
+  group-alone g h a b = at-home h b ∙ sym (at-home g a)
 
 -- a paragraph stands in a list once
 abbrev pub Once : Paragraph → List Paragraph → Type 0

@@ -1,10 +1,13 @@
 pub mod Incoming
 pub mod Levels
 pub mod Paragraph
+pub mod Numbered
 pub mod Take
 pub mod TakeCall
 pub mod Fairness
+pub mod Naming
 pub mod ExampleBooks
 pub mod Examples
 pub mod ParagraphExamples
 pub mod Unfair
+pub mod NamingExamples

@@ -3,6 +3,7 @@ use Prim.Native.Nat.{ℕ}
 use mathlib.Core.Path.{_≡_, refl}
 use mathlib.Core.Bool.{Bool, true}
 use mathlib.Core.List.{List, [], _∷_, map}
+use lib.Dec.{eqb}
 use Rattle.units.specs.Lists.{all, sameNumbers}
 use Rattle.sharing.specs.Round.{goesRound, round}
 use Rattle.sharing.specs.Lots.{lotSharing}
@@ -14,7 +15,8 @@ use Rattle.orders.specs.Order.{withInterest, settled}
 use Rattle.matching.specs.declared.Algorithm.{Algorithm}
 use Rattle.matching.specs.declared.Algorithm.the-variants.{PriceTime, ProRata, PriceSetter}
 use Rattle.matching.specs.Levels.{priceLevels}
-use Rattle.matching.specs.Paragraph.{partOf}
+use Rattle.matching.specs.Paragraph.{paragraphNumber, partOf}
+use Rattle.matching.specs.Numbered.{paragraphNumbered}
 use Rattle.matching.specs.Take.{allocationAt, allocationsAt, allocationsOver, allocations, executionsOf, lossesOf, outcome}
 use Rattle.matching.specs.Fairness.{gets}
 use Rattle.matching.specs.ExampleBooks.{marked, minimum, sells, bid, incoming}
@@ -101,3 +103,11 @@ paragraph-5-worked = refl
 paragraph-6-worked : all (λ b. b) paragraph6 ≡ true
 unfolding paragraph6 gives gets outcome lossesOf executionsOf allocations allocationsOver allocationsAt allocationAt partOf priceLevels setterSharing besideSetter lotSharing round goesRound withInterest settled
 paragraph-6-worked = refl
+
+-- a number below the first paragraph's, each of theirs, and one behind the last
+numbers : List Bool
+numbers = all (λ n. eqb (paragraphNumber (paragraphNumbered n)) n) (2 ∷ 3 ∷ 4 ∷ 5 ∷ 6 ∷ []) ∷ eqb (paragraphNumber (paragraphNumbered 0)) 2 ∷ eqb (paragraphNumber (paragraphNumbered 7)) 6 ∷ []
+
+numbers-worked : all (λ b. b) numbers ≡ true
+unfolding numbers
+numbers-worked = refl

@@ -4,9 +4,8 @@ pub mod incoming;
 use sharing::Method;
 use sharing::Rank;
 ghost use mathlib.Core.Path.{_≡_};
-ghost use lib.ListN.{getD};
-ghost use Rattle.matching.specs.declared.Paragraph.the-variants.{Six};
-ghost use Rattle.matching.specs.Paragraph.{algorithmOf, paragraphs, paragraphNumber, proRataMethod, methodOf};
+ghost use Rattle.matching.specs.Paragraph.{algorithmOf, paragraphNumber, proRataMethod, methodOf};
+ghost use Rattle.matching.specs.Numbered.{paragraphNumbered};
 
 // The execution algorithms of Rule 3307. PriceSetter is pro rata with the variation for price-setting orders.
 pub enum Algorithm {
@@ -40,20 +39,20 @@ pub enum Paragraph {
 }
 
 impl Paragraph {
-    // The paragraph that comes at a place, the first at 0.
-    pub fn at(place: usize) -> Paragraph
-        ensures { λ r. ⌜ r ≡ getD paragraphs place Six ⌝ }
+    // The paragraph of a number: below the first it is the first, and behind the last the last.
+    pub fn of(number: u8) -> Paragraph
+        ensures { λ r. ⌜ r ≡ paragraphNumbered number ⌝ }
     {
-        if place == 0 {
+        if number <= 2 {
             return Paragraph::Two;
         }
-        if place == 1 {
+        if number == 3 {
             return Paragraph::Three;
         }
-        if place == 2 {
+        if number == 4 {
             return Paragraph::Four;
         }
-        if place == 3 {
+        if number == 5 {
             return Paragraph::Five;
         }
         Paragraph::Six

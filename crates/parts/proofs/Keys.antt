@@ -4,7 +4,7 @@ use mathlib.Core.Path.{_≡_}
 use native.Mathlib.Omega.{arith}
 use Rattle.parts.specs.Key.{keyOf, groupIn, paragraphIn, placeIn, sharesIn, withShares}
 
--- a group's number, and its paragraph's place
+-- a group's number, and its paragraph's
 pub group-paragraph : (rank paragraph : ℕ) → paragraph < 8 → paragraphIn (8 * rank + paragraph) ≡ paragraph
 group-paragraph r j h = omega arith
 

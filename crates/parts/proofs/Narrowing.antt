@@ -13,7 +13,7 @@ use Rattle.units.proofs.Tests.{pick-least}
 use Rattle.units.proofs.Members.{Every, every-weaken, every-append}
 use Rattle.matching.specs.declared.Algorithm.{Algorithm}
 use Rattle.parts.specs.Key.{rankIn, groupIn, paragraphIn, sharesIn}
-use Rattle.parts.specs.Narrowed.{minimumPlace, ofRank, freeShares, Narrowed, best}
+use Rattle.parts.specs.Narrowed.{minimumParagraph, ofRank, freeShares, Narrowed, best}
 
 -- one key more is read, and what is kept is no higher than it and no higher than what was kept
 pub lowest-more : (keys : List ℕ) (k low lower : ℕ) → k < length keys → lower ≤ low → lower ≤ getD keys k 0
@@ -45,7 +45,7 @@ once-below (suc (suc k)) n m h l = absurd (omega arith)
 -- a part has fewer than 1,048,576 shares, and so has what counts of it
 free-most : (alg : Algorithm) (rank key : ℕ) → freeShares alg rank key ≤ 1048575
 free-most alg rank key =
-    omega (arith, pick-least (ofRank rank key && not (eqb (paragraphIn (groupIn key)) (minimumPlace alg))) (sharesIn key))
+    omega (arith, pick-least (ofRank rank key && not (eqb (paragraphIn (groupIn key)) (minimumParagraph alg))) (sharesIn key))
 
 pub total-most : (alg : Algorithm) (rank : ℕ) (keys : List ℕ) → total (freeShares alg rank) keys ≤ 1048575 * length keys
 total-most alg rank [] = omega arith

@@ -1,5 +1,5 @@
--- An order stands in the group of one paragraph: that at its place.
-use Prim.Native.Nat.{ℕ, _-_, _≤_, _<_}
+-- An order stands in the group of one paragraph: that of its number.
+use Prim.Native.Nat.{ℕ, _≤_, _<_}
 use mathlib.Core.Path.{_≡_, refl}
 use mathlib.Core.Bool.{Bool, true, false, cond, _&&_}
 use native.Mathlib.Omega.{arith}
@@ -16,11 +16,8 @@ use Rattle.matching.specs.declared.Algorithm.the-variants.{PriceTime, ProRata, 
 use Rattle.matching.specs.declared.Paragraph.{Paragraph}
 use Rattle.matching.specs.declared.Paragraph.the-variants.{Two, Three, Four, Five, Six}
 use Rattle.matching.specs.Paragraph.{Group, groupOf, inGroup, timeGroup, proRataGroup, paragraphNumber}
-use Rattle.parts.specs.Parts.{proRataPlace, paragraphPlace}
-
--- the place of a paragraph, the first at 0
-abbrev pub placeOf : Paragraph → ℕ
-placeOf g = paragraphNumber g - 2
+use Rattle.matching.proofs.Places.{Numbered}
+use Rattle.parts.specs.Parts.{proRataParagraph, paragraphFor}
 
 -- shares of a kind stand in a group
 abbrev standsBy : Group → Kind → ℕ → Bool
@@ -28,7 +25,7 @@ standsBy g kind n = let m = sharesOf (g .visibility) (interestBy kind n) in ltb 
 
 module _ (lot n : ℕ) (h : 0 < n) where
   -- under price/time
-  by-time : (g : Paragraph) (kind : Kind) → standsBy (timeGroup g) kind n ≡ eqb (paragraphPlace lot PriceTime kind n) (placeOf g)
+  by-time : (g : Paragraph) (kind : Kind) → standsBy (timeGroup g) kind n ≡ eqb (paragraphFor lot PriceTime kind n) (paragraphNumber g)
   by-time Two Displayed = rw (lt-ltb 0 n h)
   by-time Two NonDisplayed = refl
   by-time Two (MinimumQuantity m) = refl
@@ -46,7 +43,7 @@ module _ (lot n : ℕ) (h : 0 < n) where
   by-time Six (MinimumQuantity m) = rw (lt-ltb 0 n h)
 
   -- under pro rata, shares of a lot or more and those below
-  of-lot : lot ≤ n → (g : Paragraph) (kind : Kind) → standsBy (proRataGroup lot g) kind n ≡ eqb (proRataPlace lot kind n) (placeOf g)
+  of-lot : lot ≤ n → (g : Paragraph) (kind : Kind) → standsBy (proRataGroup lot g) kind n ≡ eqb (proRataParagraph lot kind n) (paragraphNumber g)
   of-lot l Two Displayed = rw (lt-ltb 0 n h, le-leb lot n l, le-ltb n lot l)
   of-lot l Two NonDisplayed = rw (le-ltb n lot l)
   of-lot l Two (MinimumQuantity m) = refl
@@ -63,7 +60,7 @@ module _ (lot n : ℕ) (h : 0 < n) where
   of-lot l Six NonDisplayed = rw (lt-ltb 0 n h, le-ltb n lot l)
   of-lot l Six (MinimumQuantity m) = rw (lt-ltb 0 n h)
 
-  below-lot : n < lot → (g : Paragraph) (kind : Kind) → standsBy (proRataGroup lot g) kind n ≡ eqb (proRataPlace lot kind n) (placeOf g)
+  below-lot : n < lot → (g : Paragraph) (kind : Kind) → standsBy (proRataGroup lot g) kind n ≡ eqb (proRataParagraph lot kind n) (paragraphNumber g)
   below-lot l Two Displayed = rw (lt-ltb 0 n h, lt-leb lot n l, lt-ltb n lot l)
   below-lot l Two NonDisplayed = rw (lt-ltb n lot l)
   below-lot l Two (MinimumQuantity m) = refl
@@ -80,29 +77,29 @@ module _ (lot n : ℕ) (h : 0 < n) where
   below-lot l Six NonDisplayed = rw (lt-ltb 0 n h, lt-ltb n lot l)
   below-lot l Six (MinimumQuantity m) = rw (lt-ltb 0 n h)
 
-  by-lot : (g : Paragraph) (kind : Kind) → standsBy (proRataGroup lot g) kind n ≡ eqb (proRataPlace lot kind n) (placeOf g)
+  by-lot : (g : Paragraph) (kind : Kind) → standsBy (proRataGroup lot g) kind n ≡ eqb (proRataParagraph lot kind n) (paragraphNumber g)
   by-lot g kind = go (decLe lot n)
     where
-      go : Dec (lot ≤ n) → standsBy (proRataGroup lot g) kind n ≡ eqb (proRataPlace lot kind n) (placeOf g)
+      go : Dec (lot ≤ n) → standsBy (proRataGroup lot g) kind n ≡ eqb (proRataParagraph lot kind n) (paragraphNumber g)
       go (yes l) = of-lot l g kind
       go (no l) = below-lot (omega arith) g kind
 
-  by-algorithm : (alg : Algorithm) (g : Paragraph) (kind : Kind) → standsBy (groupOf lot alg g) kind n ≡ eqb (paragraphPlace lot alg kind n) (placeOf g)
+  by-algorithm : (alg : Algorithm) (g : Paragraph) (kind : Kind) → standsBy (groupOf lot alg g) kind n ≡ eqb (paragraphFor lot alg kind n) (paragraphNumber g)
   by-algorithm PriceTime g kind = by-time g kind
   by-algorithm ProRata g kind = by-lot g kind
   by-algorithm PriceSetter g kind = by-lot g kind
 
-pro-rata-few : (lot : ℕ) (kind : Kind) (n : ℕ) → proRataPlace lot kind n < 5
-pro-rata-few lot kind n = go kind
+pro-rata-numbered : (lot : ℕ) (kind : Kind) (n : ℕ) → Numbered (proRataParagraph lot kind n)
+pro-rata-numbered lot kind n = go kind
   where
-    go : (k : Kind) → proRataPlace lot k n < 5
-    go Displayed = omega (arith, pick-least (ltb n lot) 1)
-    go NonDisplayed = omega (arith, pick-least (ltb n lot) 2)
-    go (MinimumQuantity m) = omega arith
+    go : (k : Kind) → Numbered (proRataParagraph lot k n)
+    go Displayed = record { least = omega arith; most = omega (arith, pick-least (ltb n lot) 1) }
+    go NonDisplayed = record { least = omega arith; most = omega (arith, pick-least (ltb n lot) 2) }
+    go (MinimumQuantity m) = record { least = omega arith; most = omega arith }
 
--- an order with shares stands in the group of the paragraph at its place, and in no other
+-- an order with shares stands in the group of the paragraph of its number, and in no other
 pub in-paragraph : (lot : ℕ) (alg : Algorithm) (g : Paragraph) (o : Order) → 0 < sizeOf o
-    → inGroup (groupOf lot alg g) o ≡ eqb (paragraphPlace lot alg (o .kind) (sizeOf o)) (placeOf g)
+    → inGroup (groupOf lot alg g) o ≡ eqb (paragraphFor lot alg (o .kind) (sizeOf o)) (paragraphNumber g)
 in-paragraph lot alg g o h = by-algorithm lot (sizeOf o) h alg g (o .kind)
 
 -- the shares of an order that stands in a group are all that it has
@@ -118,12 +115,12 @@ all-stand lot alg g o e = go (groupOf lot alg g .visibility) (o .kind) (ltb-true
     go hidden NonDisplayed k = refl
     go hidden (MinimumQuantity m) k = refl
 
--- a paragraph's place is below 5
-pub place-few : (lot : ℕ) (alg : Algorithm) (kind : Kind) (n : ℕ) → paragraphPlace lot alg kind n < 5
-place-few lot PriceTime kind n = go (isDisplayed kind)
+-- it is a paragraph's number
+pub for-numbered : (lot : ℕ) (alg : Algorithm) (kind : Kind) (n : ℕ) → Numbered (paragraphFor lot alg kind n)
+for-numbered lot PriceTime kind n = go (isDisplayed kind)
   where
-    go : (b : Bool) → cond b 0 1 < 5
-    go true = omega arith
-    go false = omega arith
-place-few lot ProRata kind n = pro-rata-few lot kind n
-place-few lot PriceSetter kind n = pro-rata-few lot kind n
+    go : (b : Bool) → Numbered (cond b 2 3)
+    go true = record { least = omega arith; most = omega arith }
+    go false = record { least = omega arith; most = omega arith }
+for-numbered lot ProRata kind n = pro-rata-numbered lot kind n
+for-numbered lot PriceSetter kind n = pro-rata-numbered lot kind n

@@ -23,7 +23,7 @@ use Rattle.record.proofs.Orders.{OrderSound, order-facts}
 use Rattle.matching.specs.declared.Algorithm.{Algorithm}
 use Rattle.matching.specs.declared.incoming.Incoming.{Incoming}
 use Rattle.parts.specs.Key.{keyOf}
-use Rattle.parts.specs.Parts.{rankOn, paragraphPlace, partKey, mayMeet}
+use Rattle.parts.specs.Parts.{rankOn, paragraphFor, partKey, mayMeet}
 
 -- the numbers of the two sides are 3 together
 other-side : (s t : Side) → eqb (sideNumber t) (3 - sideNumber s) ≡ isOpposite s t
@@ -57,14 +57,14 @@ module _ (numbers : Numbers) (o : Order) (e : numbers ≡ namedNumbers (numbersO
   unfolding numbersOf
   numbers-fit h = rw e (kind-most (o .kind), order-facts o h .size-most)
 
-  -- the part of its order, by a table of the paragraphs' places
-  pub part-read : (places : List ℕ) (alg : Algorithm)
-      → ((n l : ℕ) (kind : Kind) → getD places (2 * kindNumber kind + orZero (ltb n l) 1) 0 ≡ paragraphPlace l alg kind n)
+  -- the part of its order, by a table of the paragraphs' numbers
+  pub part-read : (paragraphs : List ℕ) (alg : Algorithm)
+      → ((n l : ℕ) (kind : Kind) → getD paragraphs (2 * kindNumber kind + orZero (ltb n l) 1) 0 ≡ paragraphFor l alg kind n)
       → (lot place : ℕ) (side : Side)
-      → keyOf (rankOn side (numbers .price)) (getD places (2 * numbers .kind + orZero (ltb (numbers .size) lot) 1) 0) place (numbers .size)
+      → keyOf (rankOn side (numbers .price)) (getD paragraphs (2 * numbers .kind + orZero (ltb (numbers .size) lot) 1) 0) place (numbers .size)
       ≡ partKey lot alg side place o
   unfolding numbersOf
-  part-read places alg t lot place side =
+  part-read paragraphs alg t lot place side =
       rw e (ap (λ j. keyOf (rankOn side (priceOf o)) j place (sizeOf o)) (t (sizeOf o) lot (o .kind)))
 
   -- whether the incoming order may meet it

@@ -1,4 +1,4 @@
--- The table of the paragraphs' places: where orders of a kind stand, with shares of a lot or more and with shares below.
+-- The table of the paragraphs' numbers: where orders of a kind stand, with shares of a lot or more and with shares below.
 use Prim.Native.Nat.{ℕ, zero, suc, _+_, _*_, _<_}
 use mathlib.Core.Path.{_≡_, refl}
 use mathlib.Core.Bool.{Bool, true, false}
@@ -13,20 +13,20 @@ use Rattle.orders.specs.declared.order.Kind.{Kind}
 use Rattle.orders.specs.declared.order.Kind.the-variants.{Displayed, NonDisplayed, MinimumQuantity}
 use Rattle.orders.specs.Order.{kindNumber}
 use Rattle.matching.specs.declared.Algorithm.the-variants.{PriceTime}
-use Rattle.parts.specs.Parts.{proRataPlace, paragraphPlace}
+use Rattle.parts.specs.Parts.{proRataParagraph, paragraphFor}
 
--- every place is below 8, and so is what is read behind the end
-table-below : (places : List ℕ) → all (λ n. ltb n 8) places ≡ true → (k : ℕ) → getD places k 0 < 8
+-- every number is below 8, and so is what is read behind the end
+table-below : (ms : List ℕ) → all (λ n. ltb n 8) ms ≡ true → (k : ℕ) → getD ms k 0 < 8
 table-below [] e k = omega arith
 table-below (n ∷ ns) e zero = ltb-true n 8 (and-true (ltb n 8) (all (λ m. ltb m 8) ns) e .0)
 table-below (n ∷ ns) e (suc k) = table-below ns (and-true (ltb n 8) (all (λ m. ltb m 8) ns) e .1) k
 
 -- under price/time, and under pro rata
 abbrev timeTable : List ℕ
-timeTable = 0 ∷ 0 ∷ 0 ∷ 0 ∷ 1 ∷ 1 ∷ 1 ∷ 1 ∷ []
+timeTable = 2 ∷ 2 ∷ 2 ∷ 2 ∷ 3 ∷ 3 ∷ 3 ∷ 3 ∷ []
 
 abbrev proRataTable : List ℕ
-proRataTable = 0 ∷ 0 ∷ 0 ∷ 1 ∷ 2 ∷ 4 ∷ 3 ∷ 3 ∷ []
+proRataTable = 2 ∷ 2 ∷ 2 ∷ 3 ∷ 4 ∷ 6 ∷ 5 ∷ 5 ∷ []
 
 pub time-below : (k : ℕ) → getD timeTable k 0 < 8
 time-below = table-below timeTable refl
@@ -34,11 +34,11 @@ time-below = table-below timeTable refl
 pub pro-rata-below : (k : ℕ) → getD proRataTable k 0 < 8
 pro-rata-below = table-below proRataTable refl
 
--- each column is the place of its kind
-pub time-table : (n l : ℕ) (kind : Kind) → getD timeTable (2 * kindNumber kind + orZero (ltb n l) 1) 0 ≡ paragraphPlace l PriceTime kind n
+-- each column is the number for its kind
+pub time-table : (n l : ℕ) (kind : Kind) → getD timeTable (2 * kindNumber kind + orZero (ltb n l) 1) 0 ≡ paragraphFor l PriceTime kind n
 time-table n l kind = go (ltb n l) kind
   where
-    go : (b : Bool) (kind : Kind) → getD timeTable (2 * kindNumber kind + orZero b 1) 0 ≡ paragraphPlace l PriceTime kind n
+    go : (b : Bool) (kind : Kind) → getD timeTable (2 * kindNumber kind + orZero b 1) 0 ≡ paragraphFor l PriceTime kind n
     go true Displayed = refl
     go true NonDisplayed = refl
     go true (MinimumQuantity m) = refl
@@ -46,10 +46,10 @@ time-table n l kind = go (ltb n l) kind
     go false NonDisplayed = refl
     go false (MinimumQuantity m) = refl
 
-pub pro-rata-table : (n l : ℕ) (kind : Kind) → getD proRataTable (2 * kindNumber kind + orZero (ltb n l) 1) 0 ≡ proRataPlace l kind n
+pub pro-rata-table : (n l : ℕ) (kind : Kind) → getD proRataTable (2 * kindNumber kind + orZero (ltb n l) 1) 0 ≡ proRataParagraph l kind n
 pro-rata-table n l kind = go (ltb n l) refl kind
   where
-    go : (b : Bool) → ltb n l ≡ b → (kind : Kind) → getD proRataTable (2 * kindNumber kind + orZero (ltb n l) 1) 0 ≡ proRataPlace l kind n
+    go : (b : Bool) → ltb n l ≡ b → (kind : Kind) → getD proRataTable (2 * kindNumber kind + orZero (ltb n l) 1) 0 ≡ proRataParagraph l kind n
     go true e Displayed = rw e
     go true e NonDisplayed = rw e
     go true e (MinimumQuantity m) = rw e

@@ -15,8 +15,8 @@ use Rattle.orders.specs.declared.order.Order.{Order}
 use Rattle.matching.specs.declared.Algorithm.the-variants.{PriceTime, ProRata, PriceSetter}
 use Rattle.matching.specs.declared.incoming.Incoming.{Incoming}
 use Rattle.parts.specs.Key.{keyOf, rankIn, groupIn, paragraphIn, placeIn, sharesIn, withShares}
-use Rattle.parts.specs.Parts.{rankOn, proRataPlace, paragraphPlace, partKey, mayMeet, keysFrom}
-use Rattle.parts.specs.Narrowed.{minimumPlace, ofRank, freeShares, Narrowed, all, best}
+use Rattle.parts.specs.Parts.{rankOn, proRataParagraph, paragraphFor, partKey, mayMeet, keysFrom}
+use Rattle.parts.specs.Narrowed.{minimumParagraph, ofRank, freeShares, Narrowed, all, best}
 
 keys : List Bool
 keys =
@@ -66,32 +66,32 @@ order side kind price size = record {
 incoming : Side → ℕ → Incoming
 incoming side limit = record { taker = record { side = side; limit = record { 0 = limit } }; size = record { 0 = 300 } }
 
-places : List Bool
-places =
+paragraphs : List Bool
+paragraphs =
     -- the lower price is the better for a buy, the higher for a sell
     eqb (rankOn Buy 100100) 100100 ∷
     eqb (rankOn Sell 100100) 4294867195 ∷
     -- under pro rata: displayed shares of a lot and below one, non-displayed ones, and those with a minimum
-    eqb (proRataPlace 100 Displayed 100) 0 ∷
-    eqb (proRataPlace 100 Displayed 99) 1 ∷
-    eqb (proRataPlace 100 NonDisplayed 100) 2 ∷
-    eqb (proRataPlace 100 NonDisplayed 99) 4 ∷
-    eqb (proRataPlace 100 (least 50) 100) 3 ∷
-    eqb (proRataPlace 100 (least 50) 99) 3 ∷
-    eqb (proRataPlace 7 Displayed 7) 0 ∷
+    eqb (proRataParagraph 100 Displayed 100) 2 ∷
+    eqb (proRataParagraph 100 Displayed 99) 3 ∷
+    eqb (proRataParagraph 100 NonDisplayed 100) 4 ∷
+    eqb (proRataParagraph 100 NonDisplayed 99) 6 ∷
+    eqb (proRataParagraph 100 (least 50) 100) 5 ∷
+    eqb (proRataParagraph 100 (least 50) 99) 5 ∷
+    eqb (proRataParagraph 7 Displayed 7) 2 ∷
     -- under price/time: displayed shares, and all others
-    eqb (paragraphPlace 100 PriceTime Displayed 99) 0 ∷
-    eqb (paragraphPlace 100 PriceTime NonDisplayed 100) 1 ∷
-    eqb (paragraphPlace 100 PriceTime (least 50) 100) 1 ∷
+    eqb (paragraphFor 100 PriceTime Displayed 99) 2 ∷
+    eqb (paragraphFor 100 PriceTime NonDisplayed 100) 3 ∷
+    eqb (paragraphFor 100 PriceTime (least 50) 100) 3 ∷
     -- under the other two as under pro rata
-    eqb (paragraphPlace 100 ProRata Displayed 99) 1 ∷
-    eqb (paragraphPlace 100 ProRata NonDisplayed 99) 4 ∷
-    eqb (paragraphPlace 100 PriceSetter Displayed 99) 1 ∷
-    eqb (paragraphPlace 100 PriceSetter (least 50) 99) 3 ∷ []
+    eqb (paragraphFor 100 ProRata Displayed 99) 3 ∷
+    eqb (paragraphFor 100 ProRata NonDisplayed 99) 6 ∷
+    eqb (paragraphFor 100 PriceSetter Displayed 99) 3 ∷
+    eqb (paragraphFor 100 PriceSetter (least 50) 99) 5 ∷ []
 
-places-worked : allOf (λ b. b) places ≡ true
-unfolding places least
-places-worked = refl
+paragraphs-worked : allOf (λ b. b) paragraphs ≡ true
+unfolding paragraphs least
+paragraphs-worked = refl
 
 -- a displayed sell, a non-displayed one below a lot at the limit, a buy, a sell above the limit, a minimum that is just met, and one that isn't
 orders : List Order
@@ -105,9 +105,9 @@ orders =
 
 parts : List Bool
 parts =
-    eqb (partKey 100 ProRata Buy 5 (order Sell NonDisplayed 100100 50)) (keyOf 100100 4 5 50) ∷
-    eqb (partKey 50 ProRata Buy 5 (order Sell NonDisplayed 100100 50)) (keyOf 100100 2 5 50) ∷
-    eqb (partKey 100 PriceTime Sell 5 (order Buy NonDisplayed 100100 50)) (keyOf 4294867195 1 5 50) ∷
+    eqb (partKey 100 ProRata Buy 5 (order Sell NonDisplayed 100100 50)) (keyOf 100100 6 5 50) ∷
+    eqb (partKey 50 ProRata Buy 5 (order Sell NonDisplayed 100100 50)) (keyOf 100100 4 5 50) ∷
+    eqb (partKey 100 PriceTime Sell 5 (order Buy NonDisplayed 100100 50)) (keyOf 4294867195 3 5 50) ∷
     -- whom a sell may meet: the other side, at or above the limit, with a minimum of 300 at most
     mayMeet (incoming Sell 100100) (order Buy Displayed 100100 50) ∷
     mayMeet (incoming Sell 100100) (order Buy (least 300) 100200 400) ∷
@@ -115,9 +115,9 @@ parts =
     not (mayMeet (incoming Sell 100100) (order Buy Displayed 100099 50)) ∷
     not (mayMeet (incoming Sell 100100) (order Buy (least 301) 100200 400)) ∷
     -- the parts that a buy may meet, each with the place of its record
-    sameNumbers (keysFrom 100 ProRata (incoming Buy 100100) 0 orders) (keyOf 100000 0 0 250 ∷ keyOf 100100 4 1 50 ∷ keyOf 100050 3 4 400 ∷ []) ∷
-    sameNumbers (keysFrom 100 PriceTime (incoming Buy 100000) 7 orders) (keyOf 100000 0 7 250 ∷ []) ∷
-    sameNumbers (keysFrom 100 PriceTime (incoming Sell 1) 0 orders) (keyOf 4294867295 0 2 100 ∷ []) ∷
+    sameNumbers (keysFrom 100 ProRata (incoming Buy 100100) 0 orders) (keyOf 100000 2 0 250 ∷ keyOf 100100 6 1 50 ∷ keyOf 100050 5 4 400 ∷ []) ∷
+    sameNumbers (keysFrom 100 PriceTime (incoming Buy 100000) 7 orders) (keyOf 100000 2 7 250 ∷ []) ∷
+    sameNumbers (keysFrom 100 PriceTime (incoming Sell 1) 0 orders) (keyOf 4294867295 2 2 100 ∷ []) ∷
     sameNumbers (keysFrom 100 PriceTime (incoming Buy 100100) 0 []) [] ∷ []
 
 parts-worked : allOf (λ b. b) parts ≡ true
@@ -126,17 +126,17 @@ parts-worked = refl
 
 free : List Bool
 free =
-    eqb (minimumPlace PriceTime) 1 ∷
-    eqb (minimumPlace ProRata) 3 ∷
-    eqb (minimumPlace PriceSetter) 3 ∷
+    eqb (minimumParagraph PriceTime) 3 ∷
+    eqb (minimumParagraph ProRata) 5 ∷
+    eqb (minimumParagraph PriceSetter) 5 ∷
     ofRank 4 (keyOf 4 1 2 50) ∷
     not (ofRank 3 (keyOf 4 1 2 50)) ∷
     -- of the rank, in another paragraph's group than those with a minimum
-    eqb (freeShares ProRata 4 (keyOf 4 1 2 50)) 50 ∷
-    eqb (freeShares PriceTime 4 (keyOf 4 1 2 50)) 0 ∷
-    eqb (freeShares PriceSetter 4 (keyOf 4 3 2 50)) 0 ∷
-    eqb (freeShares PriceTime 4 (keyOf 4 3 2 50)) 50 ∷
-    eqb (freeShares ProRata 3 (keyOf 4 1 2 50)) 0 ∷ []
+    eqb (freeShares ProRata 4 (keyOf 4 3 2 50)) 50 ∷
+    eqb (freeShares PriceTime 4 (keyOf 4 3 2 50)) 0 ∷
+    eqb (freeShares PriceSetter 4 (keyOf 4 5 2 50)) 0 ∷
+    eqb (freeShares PriceTime 4 (keyOf 4 5 2 50)) 50 ∷
+    eqb (freeShares ProRata 3 (keyOf 4 3 2 50)) 0 ∷ []
 
 free-worked : allOf (λ b. b) free ≡ true
 unfolding free

@@ -9,11 +9,11 @@ use Rattle.matching.specs.declared.Algorithm.{Algorithm}
 use Rattle.matching.specs.declared.Algorithm.the-variants.{PriceTime, ProRata, PriceSetter}
 use Rattle.parts.specs.Key.{rankIn, groupIn, paragraphIn, sharesIn}
 
--- the place of the paragraph in whose group orders with a minimum stand
-abbrev pub minimumPlace : Algorithm → ℕ
-minimumPlace PriceTime = 1
-minimumPlace ProRata = 3
-minimumPlace PriceSetter = 3
+-- the number of the paragraph in whose group orders with a minimum stand
+abbrev pub minimumParagraph : Algorithm → ℕ
+minimumParagraph PriceTime = 3
+minimumParagraph ProRata = 5
+minimumParagraph PriceSetter = 5
 
 -- of a rank
 abbrev pub ofRank : ℕ → ℕ → Bool
@@ -21,7 +21,7 @@ ofRank rank key = eqb (rankIn key) rank
 
 -- the shares of a part of this rank that has no minimum
 abbrev pub freeShares : Algorithm → ℕ → ℕ → ℕ
-freeShares alg rank key = orZero (ofRank rank key && not (eqb (paragraphIn (groupIn key)) (minimumPlace alg))) (sharesIn key)
+freeShares alg rank key = orZero (ofRank rank key && not (eqb (paragraphIn (groupIn key)) (minimumParagraph alg))) (sharesIn key)
 
 -- all parts, or those of the lowest rank if they are enough
 pub data Narrowed (alg : Algorithm) (size : ℕ) (keys : List ℕ) : List ℕ → Type 0 where

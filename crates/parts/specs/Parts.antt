@@ -21,22 +21,22 @@ abbrev pub rankOn : Side → ℕ → ℕ
 rankOn Buy price = price
 rankOn Sell price = 4294967295 - price
 
--- the place of the paragraph in whose group so many shares of an order of this kind stand under pro rata
-abbrev pub proRataPlace : ℕ → Kind → ℕ → ℕ
-proRataPlace lot Displayed n = orZero (ltb n lot) 1
-proRataPlace lot NonDisplayed n = 2 + orZero (ltb n lot) 2
-proRataPlace lot (MinimumQuantity m) n = 3
+-- the number of the paragraph in whose group so many shares of an order of this kind stand under pro rata
+abbrev pub proRataParagraph : ℕ → Kind → ℕ → ℕ
+proRataParagraph lot Displayed n = 2 + orZero (ltb n lot) 1
+proRataParagraph lot NonDisplayed n = 4 + orZero (ltb n lot) 2
+proRataParagraph lot (MinimumQuantity m) n = 5
 
 -- and under each algorithm
-abbrev pub paragraphPlace : ℕ → Algorithm → Kind → ℕ → ℕ
-paragraphPlace lot PriceTime kind n = cond (isDisplayed kind) 0 1
-paragraphPlace lot ProRata kind n = proRataPlace lot kind n
-paragraphPlace lot PriceSetter kind n = proRataPlace lot kind n
+abbrev pub paragraphFor : ℕ → Algorithm → Kind → ℕ → ℕ
+paragraphFor lot PriceTime kind n = cond (isDisplayed kind) 2 3
+paragraphFor lot ProRata kind n = proRataParagraph lot kind n
+paragraphFor lot PriceSetter kind n = proRataParagraph lot kind n
 
 -- an order has one part: all its shares are of one visibility
 module _ (lot : ℕ) (alg : Algorithm) (side : Side) where
   abbrev pub partKey : ℕ → Order → ℕ
-  partKey place o = keyOf (rankOn side (priceOf o)) (paragraphPlace lot alg (o .kind) (sizeOf o)) place (sizeOf o)
+  partKey place o = keyOf (rankOn side (priceOf o)) (paragraphFor lot alg (o .kind) (sizeOf o)) place (sizeOf o)
 
 -- the incoming order may trade with it, and its minimum isn't above all the shares that come in
 abbrev pub mayMeet : Incoming → Order → Bool

@@ -7,7 +7,7 @@ ghost use Prim.Native.Nat.{_≤_};
 ghost use lib.ListN.{length, take};
 ghost use Rattle.units.specs.Lists.{orZero, filter, total};
 ghost use Rattle.units.proofs.Members.{Every};
-ghost use Rattle.parts.specs.Narrowed.{minimumPlace, ofRank, freeShares, Narrowed};
+ghost use Rattle.parts.specs.Narrowed.{minimumParagraph, ofRank, freeShares, Narrowed};
 
 // No key is lower.
 fn lowest(keys: &[u64]) -> u64
@@ -23,14 +23,14 @@ fn lowest(keys: &[u64]) -> u64
     low
 }
 
-// The place of the paragraph in whose group orders with a minimum stand.
-fn minimum_place(algorithm: Algorithm) -> u64
-    ensures { λ r. ⌜ r ≡ minimumPlace algorithm ⌝ }
+// The number of the paragraph in whose group orders with a minimum stand.
+fn minimum_paragraph(algorithm: Algorithm) -> u64
+    ensures { λ r. ⌜ r ≡ minimumParagraph algorithm ⌝ }
 {
     match algorithm {
-        Algorithm::PriceTime => 1,
-        Algorithm::ProRata => 3,
-        Algorithm::PriceSetter => 3,
+        Algorithm::PriceTime => 3,
+        Algorithm::ProRata => 5,
+        Algorithm::PriceSetter => 5,
     }
 }
 
@@ -42,7 +42,7 @@ fn one_if(test: bool) -> u32
 
 // The shares of a part of this rank, where it stands in another paragraph's group than this one.
 fn free_shares(key: u64, rank: u64, excluded: u64) -> Shares
-    ensures { λ r. ⌜ ((alg : Algorithm) → excluded ≡ minimumPlace alg → r .0 ≡ freeShares alg rank key) ⌝ }
+    ensures { λ r. ⌜ ((alg : Algorithm) → excluded ≡ minimumParagraph alg → r .0 ≡ freeShares alg rank key) ⌝ }
 {
     let test = (key::rank(key) == rank) & !(key::group(key) % 8 == excluded);
     let shares = key::shares(key);
@@ -54,7 +54,7 @@ fn free_total(keys: &[u64], algorithm: Algorithm, rank: u64) -> Shares
     requires { ⌜ length (now keys) ≤ 512 ⌝ }
     ensures { λ r. ⌜ r .0 ≡ total (freeShares algorithm rank) (now (keys .entry)) ⌝ }
 {
-    let excluded = minimum_place(algorithm);
+    let excluded = minimum_paragraph(algorithm);
     let mut total = Shares(0);
     let mut k = 0;
     while k < keys.len() {

@@ -1,11 +1,7 @@
-// A part of an order as one number: the rank of its price, the place of its paragraph, the place of its record, and its shares.
-use matching::Paragraph;
+// A part of an order as one number: the rank of its price, the number of its paragraph, the place of its record, and its shares.
 use units::Shares;
 ghost use mathlib.Core.Path.{_≡_};
 ghost use Prim.Native.Nat.{_<_};
-ghost use lib.ListN.{getD};
-ghost use Rattle.matching.specs.declared.Paragraph.the-variants.{Six};
-ghost use Rattle.matching.specs.Paragraph.{paragraphs};
 ghost use Rattle.parts.specs.Key.{keyOf, rankIn, groupIn, paragraphIn, placeIn, sharesIn, withShares};
 
 // The number of a part.
@@ -31,11 +27,11 @@ pub fn group(key: u64) -> u64
     key / 536_870_912
 }
 
-// The paragraph in whose group it stands.
-pub fn paragraph(key: u64) -> Paragraph
-    ensures { λ r. ⌜ r ≡ getD paragraphs (paragraphIn (groupIn key)) Six ⌝ }
+// The number of the paragraph in whose group it stands.
+pub fn paragraph(key: u64) -> u8
+    ensures { λ r. ⌜ r ≡ paragraphIn (groupIn key) ⌝ }
 {
-    Paragraph::at((key / 536_870_912 % 8) as usize)
+    (key / 536_870_912 % 8) as u8
 }
 
 // The place of its order's record.

@@ -23,7 +23,7 @@ ghost use Rattle.record.specs.Record.{numbersOf};
 ghost use Rattle.record.specs.Names.{namedNumbers};
 ghost use Rattle.record.proofs.Orders.{OrderSound};
 ghost use Rattle.book.specs.Sound.{sound, ordersOf};
-ghost use Rattle.parts.specs.Parts.{rankOn, paragraphPlace, partKey, mayMeet, keysFrom};
+ghost use Rattle.parts.specs.Parts.{rankOn, paragraphFor, partKey, mayMeet, keysFrom};
 ghost use Rattle.parts.specs.Arranged.{Arranged};
 
 // The rank of a price for a taker of this side: the better the price, the lower.
@@ -36,15 +36,15 @@ fn rank_on(side: Side, price: u32) -> u32
     }
 }
 
-// The places of the paragraphs in whose groups orders stand: at twice the number of the kind, and one more for shares below a lot.
-fn paragraph_places(algorithm: Algorithm) -> [u64; 8]
+// The numbers of the paragraphs in whose groups orders stand: at twice the number of the kind, and one more for shares below a lot.
+fn paragraph_numbers(algorithm: Algorithm) -> [u64; 8]
     ensures { λ r. ⌜ ((k : ℕ) → getD r k 0 < 8)
-        × ((n l : ℕ) (kind : Kind) → getD r (2 * kindNumber kind + orZero (ltb n l) 1) 0 ≡ paragraphPlace l algorithm kind n) ⌝ }
+        × ((n l : ℕ) (kind : Kind) → getD r (2 * kindNumber kind + orZero (ltb n l) 1) 0 ≡ paragraphFor l algorithm kind n) ⌝ }
 {
     match algorithm {
-        Algorithm::PriceTime => [0, 0, 0, 0, 1, 1, 1, 1],
-        Algorithm::ProRata => [0, 0, 0, 1, 2, 4, 3, 3],
-        Algorithm::PriceSetter => [0, 0, 0, 1, 2, 4, 3, 3],
+        Algorithm::PriceTime => [2, 2, 2, 2, 3, 3, 3, 3],
+        Algorithm::ProRata => [2, 2, 2, 3, 4, 6, 5, 5],
+        Algorithm::PriceSetter => [2, 2, 2, 3, 4, 6, 5, 5],
     }
 }
 
@@ -55,18 +55,19 @@ fn one_if(test: bool) -> usize
 }
 
 // The part of an order by the numbers of its record.
-fn part_of(numbers: Numbers, place: usize, side: Side, places: [u64; 8], lot: Shares) -> u64
+fn part_of(numbers: Numbers, place: usize, side: Side, paragraphs: &[u64], lot: Shares) -> u64
     requires { ⌜ (place < 512)
-        × ((k : ℕ) → getD places k 0 < 8)
+        × (length (now paragraphs) ≡ 8)
+        × ((k : ℕ) → getD (now paragraphs) k 0 < 8)
         × ((o : Order) × OrderSound o × (numbers ≡ namedNumbers (numbersOf o))) ⌝ }
     ensures { λ r. ⌜ ((o : Order) (alg : Algorithm) → numbers ≡ namedNumbers (numbersOf o)
-        → ((n l : ℕ) (kind : Kind) → getD places (2 * kindNumber kind + orZero (ltb n l) 1) 0 ≡ paragraphPlace l alg kind n)
+        → ((n l : ℕ) (kind : Kind) → getD (now (paragraphs .entry)) (2 * kindNumber kind + orZero (ltb n l) 1) 0 ≡ paragraphFor l alg kind n)
         → r ≡ partKey (lot .0) alg side place o) ⌝ }
 {
     let column = 2 * (numbers.kind as usize) + one_if(numbers.size < lot.0);
     key::key_of(
         rank_on(side, numbers.price),
-        places[column],
+        paragraphs[column],
         place,
         Shares(numbers.size),
     )
@@ -100,12 +101,12 @@ fn collect(
 {
     let taker = incoming.taker;
     let side = taker.side;
-    let places = paragraph_places(algorithm);
+    let paragraphs = paragraph_numbers(algorithm);
     let mut count = 0;
     let mut i = 0;
     while i < n {
         let numbers = records::numbers_at(book, RECORD_BYTES * i);
-        keys[count] = part_of(numbers, i, side, places, lot);
+        keys[count] = part_of(numbers, i, side, &paragraphs, lot);
         count += one_if(may_meet(numbers, incoming));
         i += 1;
     }

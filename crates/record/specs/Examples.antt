@@ -37,13 +37,12 @@ tells : Execution → List ℕ → Bool
 tells e = sameNumbers (e .number ∷ e .price .0 ∷ e .shares .0 ∷ e .paragraph ∷ [])
 
 execution : Execution
-execution = record { number = 3; price = record { 0 = 100000 }; shares = record { 0 = 500 }; paragraph = 2 }
+execution = record { number = 3; price = record { 0 = 100000 }; shares = record { 0 = 500 }; paragraph = 5 }
 
 values : List Bool
 values =
-    -- 32 and 16 bytes
+    -- 32 bytes
     eqb (formBytes orderForm) 32 ∷
-    eqb executionBytes 16 ∷
     recordSound orderForm setter ∷
     sameNumbers (encodeOrder orderForm (decodeOrder orderForm setter)) setter ∷
     recordSound orderForm (encodeOrder orderForm (ofMinimum 400)) ∷
@@ -70,15 +69,24 @@ values =
     -- what its numbers say
     reads (decodeOrder orderForm setter) (2 ∷ 1 ∷ 258 ∷ 100000 ∷ 600 ∷ 0 ∷ 1 ∷ []) ∷
     reads (decodeOrder orderForm (encodeOrder orderForm (ofMinimum 400))) (2 ∷ 3 ∷ 1 ∷ 100000 ∷ 500 ∷ 400 ∷ 0 ∷ []) ∷
-    sameNumbers (encodeExecution execution) (0x45 ∷ 0x58 ∷ 0 ∷ 0 ∷ 3 ∷ 0 ∷ 0 ∷ 0 ∷ 0xa0 ∷ 0x86 ∷ 1 ∷ 0 ∷ 0xf4 ∷ 1 ∷ 0 ∷ 0 ∷ []) ∷
-    sameNumbers (encodeExecution (decodeExecution (encodeExecution execution))) (encodeExecution execution) ∷
-    -- the third byte is read as the paragraph
-    tells (decodeExecution (set (encodeExecution execution) 2 5)) (3 ∷ 100000 ∷ 500 ∷ 5 ∷ []) ∷
-    -- two executions, one behind the other
-    sameNumbers (map (λ e. e .number) (executionsIn 2 (encodeExecution execution ++ set (encodeExecution execution) 4 7))) (3 ∷ 7 ∷ []) ∷
     -- bytes in the place of others
     sameNumbers (replaced 1 (8 ∷ 9 ∷ []) (1 ∷ 2 ∷ 3 ∷ 4 ∷ [])) (1 ∷ 8 ∷ 9 ∷ 4 ∷ []) ∷ []
 
 worked : all (λ b. b) values ≡ true
-unfolding values setter unmarked ofMinimum reads tells execution encode decode numbersOf orderOf numbersSound executionOf
+unfolding values setter unmarked ofMinimum reads encode decode numbersOf orderOf numbersSound
 worked = refl
+
+executions : List Bool
+executions =
+    eqb executionBytes 16 ∷
+    -- byte 2 is the paragraph, and byte 3 is zero
+    sameNumbers (encodeExecution execution) (0x45 ∷ 0x58 ∷ 5 ∷ 0 ∷ 3 ∷ 0 ∷ 0 ∷ 0 ∷ 0xa0 ∷ 0x86 ∷ 1 ∷ 0 ∷ 0xf4 ∷ 1 ∷ 0 ∷ 0 ∷ []) ∷
+    -- and what they say
+    tells (decodeExecution (encodeExecution execution)) (3 ∷ 100000 ∷ 500 ∷ 5 ∷ []) ∷
+    tells (decodeExecution (set (encodeExecution execution) 2 6)) (3 ∷ 100000 ∷ 500 ∷ 6 ∷ []) ∷
+    -- two executions, one behind the other
+    sameNumbers (map (λ e. e .number) (executionsIn 2 (encodeExecution execution ++ set (encodeExecution execution) 4 7))) (3 ∷ 7 ∷ []) ∷ []
+
+executions-worked : all (λ b. b) executions ≡ true
+unfolding executions tells execution encode decode executionOf
+executions-worked = refl

@@ -5,18 +5,18 @@ use lib.ListN.{getD, drop}
 use Rattle.record.specs.declared.execution.Execution.{Execution}
 use Rattle.record.specs.Codec.{Form, formBytes, encode, decode}
 
--- mark 45 58 hex, two zero bytes, then order number, price and shares
+-- mark 45 58 hex, the paragraph of the rule that gave the shares, a zero byte, then order number, price and shares
 abbrev pub executionForm : Form
 executionForm = record { mark = 0x45 ∷ 0x58 ∷ []; widths = 1 ∷ 1 ∷ 4 ∷ 4 ∷ 4 ∷ [] }
 
 abbrev pub executionBytes : ℕ
 executionBytes = formBytes executionForm
 
--- its bytes; the paragraph of the rule has no place in them, and two zeros stand there
+-- its bytes
 abbrev pub encodeExecution : Execution → List ℕ
-encodeExecution e = encode executionForm (0 ∷ 0 ∷ e .number ∷ e .price .0 ∷ e .shares .0 ∷ [])
+encodeExecution e = encode executionForm (e .paragraph ∷ 0 ∷ e .number ∷ e .price .0 ∷ e .shares .0 ∷ [])
 
--- the execution that its numbers say; of what was written its paragraph reads 0
+-- the execution that its numbers say
 unfoldable pub executionOf : List ℕ → Execution
 executionOf ns = record {
   number = getD ns 2 0;

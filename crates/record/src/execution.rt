@@ -16,7 +16,7 @@ pub struct Execution {
     pub paragraph: u8,
 }
 
-// The execution's 16 bytes. The paragraph has no place in them.
+// The execution's 16 bytes.
 pub fn bytes_of(execution: Execution) -> [u8; 16]
     ensures { λ r. ⌜ r ≡ encodeExecution execution ⌝ }
 {
@@ -28,7 +28,7 @@ pub fn bytes_of(execution: Execution) -> [u8; 16]
     [
         0x45,
         0x58,
-        0,
+        execution.paragraph,
         0,
         n[0],
         n[1],

@@ -18,9 +18,9 @@ ghost use Rattle.matching.specs.Fairness.{FairTake};
 // The version of the interface, as the header's RUHVASTO_VERSION.
 #[no_mangle]
 pub extern "C" fn ruhvasto_version() -> u32
-    ensures { λ r. ⌜ r ≡ 2 ⌝ }
+    ensures { λ r. ⌜ r ≡ 3 ⌝ }
 {
-    2
+    3
 }
 
 // Whether the book is sound, and how many orders it has.

@@ -15,17 +15,15 @@ use Rattle.record.specs.declared.execution.Execution.{Execution}
 use Rattle.record.specs.Codec.{replaced}
 use Rattle.record.specs.Execution.{encodeExecution}
 use Rattle.record.proofs.Executions.{length-execution}
-use Rattle.matching.specs.declared.Paragraph.{Paragraph}
-use Rattle.matching.specs.Paragraph.{paragraphNumber}
 use Rattle.matching.specs.TakeCall.{written}
-use Rattle.parts.specs.Key.{groupIn, placeIn, sharesIn}
-use Rattle.allocation.specs.Walk.{paragraphOf, executionOf}
+use Rattle.parts.specs.Key.{groupIn, paragraphIn, placeIn, sharesIn}
+use Rattle.allocation.specs.Walk.{executionOf}
 use Rattle.settlement.proofs.Filling.{Filled, filled-none, filled-more, filled-done}
 
 -- an execution, as its numbers were read
-pub execution-is : (at : ℕ → Order) (fill : ℕ) {o : Order} {g : Paragraph} {n : ℕ} {s : Shares} → o ≡ at (placeIn fill) → g ≡ paragraphOf (groupIn fill)
-    → n ≡ paragraphNumber g → s .0 ≡ sharesIn fill → record { number = o .number; price = o .price; shares = s; paragraph = n } ≡ executionOf at fill
-execution-is at fill {s = s} a b c d = rw (a, c, b, shares-are s d)
+pub execution-is : (at : ℕ → Order) (fill : ℕ) {o : Order} {g : ℕ} {s : Shares} → o ≡ at (placeIn fill) → g ≡ paragraphIn (groupIn fill)
+    → s .0 ≡ sharesIn fill → record { number = o .number; price = o .price; shares = s; paragraph = g } ≡ executionOf at fill
+execution-is at fill {s = s} a b c = rw (a, b, shares-are s c)
 
 -- Fills, and the execution of each.
 module _ (one : ℕ → Execution) (fills : List ℕ) where

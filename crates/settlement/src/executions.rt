@@ -24,12 +24,11 @@ fn execution_of(book: &[u8], fill: u64) -> Execution
 {
     let order = records::order_at(book, RECORD_BYTES * key::place(fill));
     let price = order.price;
-    let paragraph = key::paragraph(fill);
     Execution {
         number: order.number,
         price,
         shares: key::shares(fill),
-        paragraph: paragraph.number(),
+        paragraph: key::paragraph(fill),
     }
 }
 

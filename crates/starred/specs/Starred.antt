@@ -51,10 +51,6 @@ request n (D-at price size) = sell 1 n price size 0
 request n (H size) = sell 2 n ten size 0
 request n (M size minimum) = sell 3 n ten size minimum
 
--- an execution: order number, price, shares
-execution : ℕ → ℕ → ℕ → Execution
-execution n price shares = record { number = n; price = record { 0 = price }; shares = record { 0 = shares }; paragraph = 0 }
-
 -- an order of the book afterwards: number, size, minimum
 rest : ℕ → ℕ → ℕ → List ℕ
 rest n size minimum = n ∷ size ∷ minimum ∷ []
@@ -111,45 +107,46 @@ passes c =
     let b = made 1 (c .resting) (record { refusal = 0; book = empty }) in
     eqb (b .refusal) 0 && all (takePasses (b .book)) (c .takes)
 
-at : ℕ → ℕ → Execution
-at n shares = execution n ten shares
+-- an execution at 100000: the paragraph that it names, order number, shares
+at : ℕ → ℕ → ℕ → Execution
+at paragraph n shares = record { number = n; price = record { 0 = ten }; shares = record { 0 = shares }; paragraph = paragraph }
 
 starred : List Case
 starred =
     -- a and b, the rule's examples 1 and 2
     case (D 600 ∷ D 400 ∷ D 300 ∷ [])
-    (take 2 1200 (at 1 600 ∷ at 2 400 ∷ at 3 200 ∷ []) 0 (rest 3 100 0 ∷ []) ∷
-    take 2 80 (at 1 80 ∷ []) 0 (rest 1 520 0 ∷ rest 2 400 0 ∷ rest 3 300 0 ∷ []) ∷ []) ∷
+    (take 2 1200 (at 2 1 600 ∷ at 2 2 400 ∷ at 2 3 200 ∷ []) 0 (rest 3 100 0 ∷ []) ∷
+    take 2 80 (at 2 1 80 ∷ []) 0 (rest 1 520 0 ∷ rest 2 400 0 ∷ rest 3 300 0 ∷ []) ∷ []) ∷
     -- c and e, examples 3 and 5
     case (D-at 100100 1000 ∷ D 1000 ∷ D 3000 ∷ D 1000 ∷ [])
-    (take 3 1000 (at 2 400 ∷ at 3 500 ∷ at 4 100 ∷ []) 0 (rest 1 1000 0 ∷ rest 2 600 0 ∷ rest 3 2500 0 ∷ rest 4 900 0 ∷ []) ∷
-    take 3 80 (at 2 32 ∷ at 3 48 ∷ []) 0 (rest 1 1000 0 ∷ rest 2 968 0 ∷ rest 3 2952 0 ∷ rest 4 1000 0 ∷ []) ∷ []) ∷
+    (take 3 1000 (at 2 2 400 ∷ at 2 3 500 ∷ at 2 4 100 ∷ []) 0 (rest 1 1000 0 ∷ rest 2 600 0 ∷ rest 3 2500 0 ∷ rest 4 900 0 ∷ []) ∷
+    take 3 80 (at 2 2 32 ∷ at 2 3 48 ∷ []) 0 (rest 1 1000 0 ∷ rest 2 968 0 ∷ rest 3 2952 0 ∷ rest 4 1000 0 ∷ []) ∷ []) ∷
     -- d, example 4
     case (D-at 100100 1000 ∷ D 3000 ∷ D 1000 ∷ D 1000 ∷ [])
-    (take 3 1000 (at 2 600 ∷ at 3 200 ∷ at 4 200 ∷ []) 0 (rest 1 1000 0 ∷ rest 2 2400 0 ∷ rest 3 800 0 ∷ rest 4 800 0 ∷ []) ∷ []) ∷
+    (take 3 1000 (at 2 2 600 ∷ at 2 3 200 ∷ at 2 4 200 ∷ []) 0 (rest 1 1000 0 ∷ rest 2 2400 0 ∷ rest 3 800 0 ∷ rest 4 800 0 ∷ []) ∷ []) ∷
     -- f
-    case (D 150 ∷ D 150 ∷ []) (take 2 290 (at 1 150 ∷ at 2 140 ∷ []) 0 (rest 2 10 0 ∷ []) ∷ []) ∷
+    case (D 150 ∷ D 150 ∷ []) (take 2 290 (at 2 1 150 ∷ at 2 2 140 ∷ []) 0 (rest 2 10 0 ∷ []) ∷ []) ∷
     -- g, and what plain sharing gives
     case (D 300 ∷ D 250 ∷ D 250 ∷ D 200 ∷ [])
-    (take 3 500 (at 1 200 ∷ at 2 200 ∷ at 3 100 ∷ []) 0 (rest 1 100 0 ∷ rest 2 50 0 ∷ rest 3 150 0 ∷ rest 4 200 0 ∷ []) ∷
-    take 2 500 (at 1 200 ∷ at 2 100 ∷ at 3 100 ∷ at 4 100 ∷ []) 0 (rest 1 100 0 ∷ rest 2 150 0 ∷ rest 3 150 0 ∷ rest 4 100 0 ∷ []) ∷ []) ∷
+    (take 3 500 (at 2 1 200 ∷ at 2 2 200 ∷ at 2 3 100 ∷ []) 0 (rest 1 100 0 ∷ rest 2 50 0 ∷ rest 3 150 0 ∷ rest 4 200 0 ∷ []) ∷
+    take 2 500 (at 2 1 200 ∷ at 2 2 100 ∷ at 2 3 100 ∷ at 2 4 100 ∷ []) 0 (rest 1 100 0 ∷ rest 2 150 0 ∷ rest 3 150 0 ∷ rest 4 100 0 ∷ []) ∷ []) ∷
     -- h
-    case (D 100 ∷ D 900 ∷ []) (take 3 500 (at 1 100 ∷ at 2 400 ∷ []) 0 (rest 2 500 0 ∷ []) ∷ []) ∷
+    case (D 100 ∷ D 900 ∷ []) (take 3 500 (at 2 1 100 ∷ at 2 2 400 ∷ []) 0 (rest 2 500 0 ∷ []) ∷ []) ∷
     -- i
     case (D 99 ∷ D 100 ∷ [])
-    (take 2 100 (at 2 100 ∷ []) 0 (rest 1 99 0 ∷ []) ∷
-    take 1 100 (at 1 99 ∷ at 2 1 ∷ []) 0 (rest 2 99 0 ∷ []) ∷ []) ∷
+    (take 2 100 (at 2 2 100 ∷ []) 0 (rest 1 99 0 ∷ []) ∷
+    take 1 100 (at 2 1 99 ∷ at 2 2 1 ∷ []) 0 (rest 2 99 0 ∷ []) ∷ []) ∷
     -- j
     case (M 500 400 ∷ M 400 300 ∷ [])
-    (take 2 350 (at 2 350 ∷ []) 0 (rest 1 500 400 ∷ rest 2 50 50 ∷ []) ∷
+    (take 2 350 (at 5 2 350 ∷ []) 0 (rest 1 500 400 ∷ rest 2 50 50 ∷ []) ∷
     take 2 299 [] 299 (rest 1 500 400 ∷ rest 2 400 300 ∷ []) ∷ []) ∷
     -- k
     case (H 50 ∷ M 200 200 ∷ [])
-    (take 2 220 (at 2 200 ∷ at 1 20 ∷ []) 0 (rest 1 30 0 ∷ []) ∷
-    take 1 220 (at 1 50 ∷ []) 170 (rest 2 200 200 ∷ []) ∷ []) ∷
+    (take 2 220 (at 5 2 200 ∷ at 6 1 20 ∷ []) 0 (rest 1 30 0 ∷ []) ∷
+    take 1 220 (at 3 1 50 ∷ []) 170 (rest 2 200 200 ∷ []) ∷ []) ∷
     -- l
-    case (M 300 300 ∷ H 100 ∷ []) (take 1 150 (at 2 100 ∷ []) 50 (rest 1 300 300 ∷ []) ∷ []) ∷ []
+    case (M 300 300 ∷ H 100 ∷ []) (take 1 150 (at 3 2 100 ∷ []) 50 (rest 1 300 300 ∷ []) ∷ []) ∷ []
 
 starred-pass : all passes starred ≡ true
-unfolding starred case take rest at execution passes takePasses summary buffer empty made request sell ten takeCall written outcomeOf outcome lossesOf executionsOf allocations allocationsOver allocationsAt allocationAt priceLevels partOf setterSharing besideSetter lotSharing round goesRound addCall added setsPrice requested sound ordersOf bookOf encode decode numbersOf orderOf numbersSound withInterest settled
+unfolding starred case take rest at passes takePasses summary buffer empty made request sell ten takeCall written outcomeOf outcome lossesOf executionsOf allocations allocationsOver allocationsAt allocationAt priceLevels partOf setterSharing besideSetter lotSharing round goesRound addCall added setsPrice requested sound ordersOf bookOf encode decode numbersOf orderOf numbersSound withInterest settled
 starred-pass = refl

@@ -1,5 +1,5 @@
 -- What was allocated is the outcome: its executions, the shares left, and the orders afterwards.
-use Prim.Native.Nat.{ℕ, suc, _≤_, _<_}
+use Prim.Native.Nat.{ℕ, _≤_, _<_}
 use mathlib.Core.Path.{_≡_, sym, ap, _∙_}
 use mathlib.Core.Bool.{Bool, true, false, _&&_}
 use mathlib.Core.List.{List, [], _∷_, map}
@@ -31,6 +31,7 @@ use Rattle.allocation.specs.Walk.{Walks, executionOf, fillsOf}
 use Rattle.allocation.specs.Credit.{Ledger, ledger, leftIn, Room}
 use Rattle.allocation.specs.Sharing.{Book, Walked}
 use Rattle.allocation.proofs.Arranging.{arranged-ready}
+use Rattle.allocation.proofs.Crediting.{fills-few}
 use Rattle.allocation.proofs.Dividing.{book-beside}
 use Rattle.allocation.proofs.Enough.{walk-within}
 use Rattle.allocation.proofs.Outcome.{walk-executions, walk-uses, walk-losses}
@@ -65,15 +66,6 @@ fills-within m (k ∷ keys) (n ∷ gets) a h = go (ltb 0 n) (fills-within m keys
     go : (c : Bool) → Every (λ x. placeIn x < m) (fillsOf keys gets) → Every (λ x. placeIn x < m) (consIf c (withShares n k) (fillsOf keys gets))
     go true r = (omega (arith, with-place n k (omega arith), a .0), r)
     go false r = r
-
-fills-few : (keys gets : List ℕ) → length (fillsOf keys gets) ≤ length keys
-fills-few [] gets = omega arith
-fills-few (k ∷ keys) [] = omega arith
-fills-few (k ∷ keys) (n ∷ gets) = go (ltb 0 n) (fills-few keys gets)
-  where
-    go : (c : Bool) → length (fillsOf keys gets) ≤ length keys → length (consIf c (withShares n k) (fillsOf keys gets)) ≤ suc (length keys)
-    go true r = omega arith
-    go false r = omega arith
 
 -- a walk with the same numbers
 walks-as : (at : ℕ → Order) {lot lot′ left left′ : ℕ} {alg alg′ : Algorithm} {keys gets : List ℕ} → lot ≡ lot′ → alg ≡ alg′ → left ≡ left′
@@ -151,8 +143,8 @@ module _ (q : TakeRequest) (s : List ℕ) (e : requestInRange q ≡ true) (f : s
       executions-are : map (executionOf (orderAt s)) (take (end .progress .count) (end .fills)) ≡ out .executions
       unfolding outcomeOf outcome
       executions-are =
-          ap (map (executionOf (orderAt s))) fills-are
-          ∙ sym (walk-executions roundLot (omega arith) alg i (size-most q e) (orderAt s) os fine few (book-beside s) a walks)
+          walked .credited .executions (orderAt s)
+          ∙ sym (walk-executions roundLot (omega arith) alg i (orderAt s) os fine few (book-beside s) a walks)
 
       -- as many as are counted
       decided-count : end .progress .count ≡ length (out .executions)
@@ -171,7 +163,7 @@ module _ (q : TakeRequest) (s : List ℕ) (e : requestInRange q ≡ true) (f : s
             arith,
             ap (λ (o : Incoming). o .size .0) (walked .credited .left),
             reaches,
-            walk-uses roundLot (omega arith) alg i (size-most q e) (orderAt s) os fine few (book-beside s) a walks,
+            walk-uses roundLot (omega arith) alg i (orderAt s) os fine few (book-beside s) a walks,
           )
 
       -- so are the orders that still rest
@@ -180,7 +172,7 @@ module _ (q : TakeRequest) (s : List ℕ) (e : requestInRange q ≡ true) (f : s
       decided-orders m c =
           ap (λ k. filter isResting (zipWith settled (lossesIn k (end .allotment) (end .allotment)) os)) c
           ∙ ap (filter isResting)
-          (sym (walk-losses roundLot (omega arith) alg i (size-most q e) (orderAt s) os fine few (book-beside s) a walks (end .allotment) r
+          (sym (walk-losses roundLot (omega arith) alg i (orderAt s) os fine few (book-beside s) a walks (end .allotment) r
           (λ j h. omega (arith, walked .credited .allotment j, z j))))
 
       -- each is of an order of the book

@@ -4,7 +4,7 @@ use super::soundness::MOST_ORDERS;
 
 /// What an order gets, or may get, as one number that sorts by price (the best
 /// first), then paragraph, then order number: the rank of the price in 32 bits,
-/// the paragraph in 3, the record's place in 8, shares in 20.
+/// the paragraph in 4, the record's place in 8, shares in 20.
 #[derive(Clone, Copy, PartialEq, Eq, PartialOrd, Ord)]
 pub struct Fill(u64);
 
@@ -13,7 +13,7 @@ impl Fill {
 
     const PLACE: u32 = 20;
     const PARAGRAPH: u32 = 28;
-    const RANK: u32 = 31;
+    const RANK: u32 = 32;
     const SHARES: u64 = (1 << Fill::PLACE) - 1;
 
     #[inline(always)]
@@ -31,8 +31,8 @@ impl Fill {
         self.0 >> Fill::PARAGRAPH
     }
 
-    pub fn paragraph(self) -> u64 {
-        self.group() & 7
+    pub fn paragraph(self) -> u8 {
+        (self.0 as u32 >> Fill::PARAGRAPH) as u8
     }
 
     pub fn place(self) -> usize {

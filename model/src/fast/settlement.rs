@@ -4,7 +4,7 @@ use super::fill::Fill;
 use super::record::{self, Bytes};
 use crate::EXECUTION_LENGTH;
 
-/// The mark and two zero bytes.
+/// The mark, a place for the paragraph, and a zero byte.
 const EXECUTION_HEAD: [u8; 4] = [0x45, 0x58, 0, 0];
 
 /// Writes the executions and takes their shares from the orders. Gives how many
@@ -15,6 +15,7 @@ pub fn execute(records: &mut [Bytes], fills: &[Fill], executions: &mut [u8]) -> 
     for (fill, execution) in fills.iter().zip(executions) {
         let order = &mut records[fill.place()];
         execution[0..4].copy_from_slice(&EXECUTION_HEAD);
+        execution[2] = fill.paragraph();
         // Number and price are side by side in a record too.
         execution[4..12].copy_from_slice(&order[4..12]);
         execution[12..16].copy_from_slice(&fill.shares().to_le_bytes());

@@ -36,7 +36,7 @@ impl Algorithm {
     }
 
     /// Whether minimum quantity orders have their turn in a paragraph.
-    fn has_minimums(self, paragraph: u64) -> bool {
+    fn has_minimums(self, paragraph: u8) -> bool {
         match self {
             Algorithm::PriceTime => paragraph == 3,
             _ => paragraph == 5,

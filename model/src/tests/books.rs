@@ -31,15 +31,6 @@ fn an_order_has_these_bytes() {
 }
 
 #[test]
-fn an_execution_has_these_bytes_and_the_rest_stays() {
-    let mut market = Market::of_sells("D 300");
-    market.take(BUY, PRICE, 257, 2);
-    let execution = [0x45, 0x58, 0, 0, 1, 0, 0, 0, 0xA0, 0x86, 1, 0, 1, 1, 0, 0];
-    assert_eq!(market.executions[..16], execution);
-    assert!(market.executions[16..].iter().all(|&byte| byte == 0xEE));
-}
-
-#[test]
 fn a_sound_book_has_a_sound_length() {
     for records in [0, 1, 255, 256] {
         assert_eq!(check(&vec![0; records * RECORD_LENGTH]), (0, 0));

@@ -14,6 +14,18 @@ fn case_c_with_and_without_a_last_line_end() {
     assert_eq!(printed(&format!("{CASE_C}\n")), CASE_C_FILLS);
 }
 
+/// The two algorithms fill these orders from other paragraphs.
+#[test]
+fn a_listing_does_not_name_paragraphs() {
+    let orders = "S 1 D 100000 300 0\nS 2 D 100000 40 0\nS 3 H 100000 200 0\n\
+                  S 4 M 100000 100 50\nS 5 H 100000 30 0\nT B 100000 670\n";
+    let fills = "order price shares\n1 100000 300\n2 100000 40\n3 100000 200\n\
+                 4 100000 100\n5 100000 30\nleft 0\n";
+    for algorithm in 1..=3 {
+        assert_eq!(printed(&format!("A {algorithm}\n{orders}")), fills);
+    }
+}
+
 #[test]
 fn empty_input_has_no_line() {
     assert_eq!(printed(""), "");

@@ -115,7 +115,8 @@ pub fn run(report: &mut Report, borrower: &mut Borrower) {
         let name = format!("an altered byte {place} of the book is seen");
         report.check(&name, sees(borrower, |outcome| outcome.book[place] ^= 1));
     }
-    for place in [0, 47, 63] {
+    // Bytes 2 and 3 are an execution's paragraph and the zero behind it.
+    for place in [0, 2, 3, 47, 63] {
         let name = format!("an altered byte {place} of the executions is seen");
         let outcome = sees(borrower, |outcome| outcome.executions[place] ^= 1);
         report.check(&name, outcome);

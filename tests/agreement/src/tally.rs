@@ -2,6 +2,7 @@
 
 mod divisions;
 mod groups;
+mod paragraphs;
 mod setters;
 mod takes;
 
@@ -46,6 +47,7 @@ pub fn expected() -> Coverage {
         coverage.expect(occasion);
     }
     takes::expect(&mut coverage);
+    paragraphs::expect(&mut coverage);
     divisions::expect(&mut coverage);
     setters::expect(&mut coverage);
     coverage
@@ -79,6 +81,7 @@ pub fn note(coverage: &mut Coverage, entry: &Entry, outcome: &Outcome) {
         Call::Take(_) => {
             let take = Take::new(entry, outcome, &before);
             take.note(coverage);
+            paragraphs::note(coverage, &take, &before);
             divisions::note(coverage, &take);
             setters::note(coverage, entry, &before, &take);
         }

@@ -37,7 +37,7 @@ fn large_group_divided(way: &str) -> String {
 }
 
 /// Of orders of one rank a later one got less, by algorithm 2 or 3.
-fn ran_out_among_equals(paragraph: u32) -> String {
+fn ran_out_among_equals(paragraph: u8) -> String {
     match paragraph {
         2 | 4 => format!("take: rest of paragraph {paragraph} ran out among equal sizes"),
         5 => String::from("take: shares of paragraph 5 ran out among equal minimums"),

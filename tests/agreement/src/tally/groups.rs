@@ -1,13 +1,14 @@
 //! The groups in which a take's opposite orders have their turns.
 
-use model::book::{Kind, Order, Side, ROUND_LOT};
+use super::paragraphs::paragraph_of;
+use model::book::{Order, Side};
 use model::Execution;
 
 /// The orders of one price and one paragraph of the rule.
 pub struct Group {
     pub algorithm: u32,
     pub price: u32,
-    pub paragraph: u32,
+    pub paragraph: u8,
     /// The shares left when the group has its turn.
     pub shares: u32,
     /// Each order, by rising number, with what it got.
@@ -23,8 +24,8 @@ pub fn in_turn(
     algorithm: u32,
 ) -> Vec<Group> {
     let turn = |order: &Order| match order.side {
-        Side::Buy => (u32::MAX - order.price, paragraph(algorithm, order)),
-        Side::Sell => (order.price, paragraph(algorithm, order)),
+        Side::Buy => (u32::MAX - order.price, paragraph_of(order, algorithm)),
+        Side::Sell => (order.price, paragraph_of(order, algorithm)),
     };
     let got = |order: &Order| {
         let fill = executions.iter().find(|fill| fill.number == order.number);
@@ -38,7 +39,7 @@ pub fn in_turn(
             let group = Group {
                 algorithm,
                 price: orders[0].price,
-                paragraph: paragraph(algorithm, &orders[0]),
+                paragraph: paragraph_of(&orders[0], algorithm),
                 shares: left,
                 parts: orders.iter().map(|order| (*order, got(order))).collect(),
             };
@@ -46,18 +47,6 @@ pub fn in_turn(
             group
         })
         .collect()
-}
-
-/// The paragraph of the rule in which an order has its turn.
-fn paragraph(algorithm: u32, order: &Order) -> u32 {
-    let odd_lot = order.size < ROUND_LOT;
-    match (algorithm, order.kind) {
-        (1, Kind::Displayed) => 2,
-        (1, _) => 3,
-        (_, Kind::Displayed) => 2 + u32::from(odd_lot),
-        (_, Kind::NonDisplayed) => 4 + 2 * u32::from(odd_lot),
-        (_, Kind::MinimumQuantity { .. }) => 5,
-    }
 }
 
 impl Group {

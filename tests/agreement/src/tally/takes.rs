@@ -4,7 +4,7 @@ use super::groups::{self, Group};
 use crate::calls::Call;
 use crate::compare::{Entry, Outcome};
 use model::book::{Kind, Order, Side};
-use model::EXECUTION_LENGTH;
+use model::{Execution, EXECUTION_LENGTH};
 use support::Coverage;
 
 const OCCASIONS: [&str; 17] = [
@@ -50,6 +50,7 @@ pub struct Take {
     side: Side,
     size: u32,
     pub algorithm: u32,
+    pub executions: Vec<Execution>,
     /// The orders that it may trade with, in groups, as their turns come.
     pub groups: Vec<Group>,
     fits_exactly: bool,
@@ -74,6 +75,7 @@ impl Take {
             size,
             algorithm,
             groups: groups::in_turn(opposite, &executions, size, algorithm),
+            executions,
             fits_exactly: count > 0 && entry.executions.len() == count * EXECUTION_LENGTH,
             left,
             orders: before.len(),

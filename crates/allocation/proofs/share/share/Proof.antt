@@ -8,6 +8,7 @@ use Rattle.units.proofs.Members.{every-weaken}
 use Rattle.sharing.specs.declared.Method.{Method}
 use Rattle.book.specs.Sound.{orderAt}
 use Rattle.matching.specs.Paragraph.{methodOf}
+use Rattle.matching.specs.Numbered.{paragraphNumbered}
 use Rattle.parts.specs.Key.{groupIn}
 use Rattle.allocation.specs.Walk.{paragraphOf, sharedBy}
 use Rattle.allocation.proofs.Dividing.{shared-within, divide-ready, divide-gives}
@@ -28,18 +29,18 @@ module _ (n : tie.After-needs) where
   m = z .before .before
 
   abbrev st : tie.Start
-  st = m .before .before .before .before .before .before .before .before .before .before .before
+  st = m .before .before .before .before .before .before .before .before .before .before .before .before
 
   abbrev way : Method
   way = m .method .result
 
   -- the method is that of the group's paragraph
   way-is : way ≡ methodOf (st .args .algorithm) (paragraphOf (groupIn (getD (st .args .keys .now) 0 0)))
-  way-is = m .method .ensures ∙ ap (methodOf (st .args .algorithm)) (m .before .paragraph .ensures)
+  way-is = m .method .ensures ∙ ap (methodOf (st .args .algorithm)) (m .before .of .ensures ∙ ap paragraphNumbered (m .before .before .paragraph .ensures))
 
 needs-requires : tie.Need-needs-requires
 needs-requires c κs =
-    let s = c .before .before .before .before .before .before .before .before .before .before .before .before .before .before .before .before in
+    let s = c .before .before .before .before .before .before .before .before .before .before .before .before .before .before .before .before .before in
     (s .pre .1 .forMinimums, every-weaken (λ k w. w .within) (s .args .keys .now) (s .pre .0 .ready .each), s .pre .0 .isSound)
 
 divide-requires : tie.Need-divide-requires
@@ -82,5 +83,6 @@ pub share-spec : {M : Type 1} → statement M
 share-spec =
     tie.close
     (tie.spec
-    shared-slice-read-paragraph (λ c κs. search needs) (λ c κs. search needs) (λ c κs. search needs) needs-requires divide-requires credit-requires
+    shared-slice-read-paragraph (λ c κs. search needs) (λ c κs. search needs) (λ c κs. search needs) (λ c κs. search needs) needs-requires divide-requires
+    credit-requires
     (λ c. search needs) (λ c. search needs) (λ c. search needs) (λ c. search needs) (λ c. search needs) returns)

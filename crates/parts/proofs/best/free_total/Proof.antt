@@ -6,7 +6,7 @@ use borrow.Author.Needs.{needs}
 use lib.ListN.{length, drop, drop-of-length-le}
 use Rattle.units.specs.Lists.{total as totalOf}
 use Rattle.matching.specs.declared.Algorithm.{Algorithm}
-use Rattle.parts.specs.Narrowed.{minimumPlace, freeShares}
+use Rattle.parts.specs.Narrowed.{minimumParagraph, freeShares}
 use Rattle.parts.proofs.Narrowing.{total-most, total-more}
 use Rattle.parts.proofs.best.free_total.Statement.{statement}
 use Rattle.parts.proofs.best.free_total.Tie as tie
@@ -14,7 +14,7 @@ use Rattle.parts.proofs.best.free_total.Tie as tie
 abbrev Inv-loop : tie.InvT-loop
 Inv-loop keys rank excluded total₀ k₀ total k =
     (k ≤ length keys)
-    × ((alg : Algorithm) → excluded ≡ minimumPlace alg → total .0 + totalOf (freeShares alg rank) (drop k keys) ≡ totalOf (freeShares alg rank) keys)
+    × ((alg : Algorithm) → excluded ≡ minimumParagraph alg → total .0 + totalOf (freeShares alg rank) (drop k keys) ≡ totalOf (freeShares alg rank) keys)
 
 abbrev μ-loop : tie.MeasureT-loop
 μ-loop keys rank excluded total₀ k₀ total k = length keys - k
@@ -27,7 +27,7 @@ sum-requires c κs =
     let l = c .before .before .before .loop in
     let s = c .before .before .before .before .before .before in
     let a = s .args in
-    let e = c .before .before .before .before .minimum-place .ensures in
+    let e = c .before .before .before .before .minimum-paragraph .ensures in
     let f = freeShares (a .algorithm) (a .rank) in
     omega (
       arith,
@@ -56,7 +56,7 @@ returns c =
     let l = c .before .loop in
     let a = c .before .before .before .before .args in
     let d = ap (totalOf (freeShares (a .algorithm) (a .rank))) (drop-of-length-le (a .keys .now) {i = l .k} (omega arith)) in
-    omega (arith, l .inv .1 (a .algorithm) (c .before .before .minimum-place .ensures), d)
+    omega (arith, l .inv .1 (a .algorithm) (c .before .before .minimum-paragraph .ensures), d)
 
 pub free-total-spec : {M : Type 1} → statement M
 free-total-spec =

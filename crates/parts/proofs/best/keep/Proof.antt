@@ -1,5 +1,5 @@
 -- `parts::best::keep` meets its contract: the keys kept so far, and those of the rank among the keys that are left, are those of the rank.
-use Prim.Native.Nat.{_+_, _-_, _≤_}
+use Prim.Native.Nat.{_-_, _≤_}
 use mathlib.Core.Path.{_≡_, refl, sym, _∙_}
 use mathlib.Core.List.{_++_, append-nil}
 use native.Mathlib.Omega.{arith}

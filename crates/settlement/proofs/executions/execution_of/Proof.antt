@@ -16,15 +16,15 @@ order-at-requires c κs =
 
 returns : tie.Need-returns
 returns c =
-    let g = c .before .before in
-    let o = g .before .before in
+    let s = c .before in
+    let o = s .before .before in
     let p = o .before in
     let a = p .before .before .args in
-    execution-is (orderAt (a .book .now)) (a .fill) (o .order-at .ensures ∙ ap (orderAt (a .book .now)) (p .place .ensures)) (g .paragraph .ensures)
-    (c .number .ensures) (c .before .shares .ensures)
+    execution-is (orderAt (a .book .now)) (a .fill) (o .order-at .ensures ∙ ap (orderAt (a .book .now)) (p .place .ensures)) (c .paragraph .ensures)
+    (s .shares .ensures)
 
 pub execution-of-spec : {M : Type 1} → statement M
 execution-of-spec =
     tie.close
     (tie.spec
-    (λ c κs. search needs) (λ c. search needs) order-at-requires (λ c κs. search needs) (λ c κs. search needs) (λ c κs. search needs) returns)
+    (λ c κs. search needs) (λ c. search needs) order-at-requires (λ c κs. search needs) (λ c κs. search needs) returns)
