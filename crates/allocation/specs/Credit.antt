@@ -34,7 +34,8 @@ pub record Room (keys : List ℕ) (l : Ledger) : Type 0 where
   pub places : Every (λ k. placeIn k < length (l .allotment)) keys
   pub bounded : (i : ℕ) → getD (l .allotment) i 0 + leftIn l ≤ 999999
 
--- The second is the first after the parts got these shares.
+-- The second is the first after the parts got these shares. Each execution that was logged for it names the paragraph of its part's group,
+-- whatever orders stand at the places.
 pub record Credited (keys gets : List ℕ) (a b : Ledger) : Type 0 where
   pub left : b .progress .incoming ≡ executed (sum gets) (a .progress .incoming)
   pub count : b .progress .count ≡ a .progress .count + length (fillsOf keys gets)

@@ -6,16 +6,10 @@ ghost use mathlib.Core.Path.{_≡_};
 ghost use mathlib.Core.List.{map};
 ghost use Prim.Native.Nat.{_≤_, _<_};
 ghost use lib.ListN.{length};
-ghost use Rattle.units.specs.Lists.{orZero, sum, total};
+ghost use Rattle.units.specs.Lists.{sum, total};
 ghost use Rattle.units.proofs.Members.{Every};
 ghost use Rattle.parts.specs.Key.{sharesIn};
 ghost use Rattle.allocation.specs.Credit.{ledger, Room, Credited};
-
-fn one_if(test: bool) -> usize
-    ensures { λ r. ⌜ (r ≡ orZero test 1) × (r ≤ 1) ⌝ }
-{
-    if test { 1 } else { 0 }
-}
 
 // Each part is filled.
 pub(crate) fn fill(
@@ -73,7 +67,7 @@ pub(crate) fn credit(
         fills[count] = key::with_shares(key, shares);
         allotment[place] = units::sum(Shares(allotment[place]), shares).0;
         used = units::sum(used, shares);
-        count += one_if(0 < shares.0);
+        count += units::one_if(0 < shares.0) as usize;
         k += 1;
     }
     Progress {

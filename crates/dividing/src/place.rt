@@ -4,15 +4,8 @@ use units::Shares;
 ghost use mathlib.Core.Path.{_≡_};
 ghost use Prim.Native.Nat.{ℕ, _+_, _^_, _<_};
 ghost use lib.ListN.{length, getD};
-ghost use Rattle.units.specs.Lists.{orZero, sum};
+ghost use Rattle.units.specs.Lists.{sum};
 ghost use Rattle.dividing.specs.Columns.{aheadAt, mayTake, turnAt, Served};
-
-// A factor in place of a branch.
-pub(crate) fn one_if(c: bool) -> u32
-    ensures { λ r. ⌜ r ≡ orZero c 1 ⌝ }
-{
-    if c { 1 } else { 0 }
-}
 
 // What one takes of what is left: nothing, being passed over, while its minimum exceeds what is left.
 pub(crate) fn taking(minimum: Shares, want: Shares, left: Shares) -> Shares
@@ -38,7 +31,7 @@ fn ahead(keys: &[u32], wants: &[u32], place: usize) -> Shares
         let w = wants[j];
         sum = units::sum(
             sum,
-            Shares(one_if((key < x) | ((j < place) & (key <= x))) * w),
+            Shares(units::one_if((key < x) | ((j < place) & (key <= x))) * w),
         );
         j += 1;
     }

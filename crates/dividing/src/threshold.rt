@@ -1,6 +1,5 @@
 // Shares go round by keys, largest key first, and of equal ones the earlier. It needs no sort: a threshold on the key is found by halving.
 // Those above it get what they want, those at it take in their order what remains, and those below it get nothing.
-use crate::place::one_if;
 use crate::place::serve_few;
 use crate::place::taking;
 use units::Shares;
@@ -34,7 +33,7 @@ fn above(keys: &[u32], wants: &[u32], t: u32) -> Shares
     while j < keys.len() {
         let x = keys[j];
         let w = wants[j];
-        sum = units::sum(sum, Shares(one_if(t < x) * w));
+        sum = units::sum(sum, Shares(units::one_if(t < x) * w));
         j += 1;
     }
     sum
@@ -73,7 +72,7 @@ fn serve_above(keys: &[u32], wants: &[u32], t: u32, gets: &mut [u32])
     while j < keys.len() {
         let x = keys[j];
         let w = wants[j];
-        gets[j] = gets[j] + one_if(t < x) * w;
+        gets[j] = gets[j] + units::one_if(t < x) * w;
         j += 1;
     }
 }

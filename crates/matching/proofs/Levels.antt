@@ -7,7 +7,7 @@ use native.Mathlib.Omega.{arith}
 use lib.Dec.{eqb}
 use borrow.Author.Tests.{ltb-true, ltb-false, lt-ltb, le-ltb, eqb-true, eqb-false}
 use Rattle.units.specs.Lists.{filter}
-use Rattle.units.proofs.Members.{Every, every-member, member-every, every-weaken, filter-member, member-filter}
+use Rattle.units.proofs.Members.{Every, member-every, every-weaken, filter-member, member-filter}
 use Rattle.orders.specs.declared.order.Side.{Side}
 use Rattle.orders.specs.declared.order.Side.the-variants.{Buy, Sell}
 use Rattle.orders.specs.declared.order.Order.{Order}
@@ -108,7 +108,3 @@ module _ (t : Taker) (os : List Order) where
       go : (xs : List Order) → Every (λ o. P (priceOf o)) xs → Every P (foldr (λ o ps. insertPrice (t .side) (priceOf o) ps) [] xs)
       go [] k = tt
       go (x ∷ xs) k = every-insert (t .side) (priceOf x) P (foldr (λ o ps. insertPrice (t .side) (priceOf o) ps) [] xs) (k .0) (go xs (k .1))
-
--- what holds of every order's price holds of the levels
-pub levels-every : (P : ℕ → Type 0) (t : Taker) (os : List Order) → Every (λ o. P (priceOf o)) os → Every P (priceLevels t os)
-levels-every P t os h = levels-only t os P (λ o m e. every-member (λ o. P (priceOf o)) os h o m)

@@ -23,7 +23,7 @@ use Rattle.matching.specs.declared.Paragraph.the-variants.{Two, Three, F
 use Rattle.matching.specs.Levels.{priceLevels}
 use Rattle.matching.specs.Paragraph.{paragraphNumber, groupOf, inGroup, partOf}
 use Rattle.matching.specs.Take.{allocationAt, allocationsAt, allocationsOver, allocations, executionsOf, lossesOf, outcome}
-use Rattle.matching.specs.TakeCall.{TakeAnswer, outcomeOf, written, takeCall}
+use Rattle.matching.specs.TakeCall.{outcomeOf, written, takeCall}
 use Rattle.matching.specs.Naming.{Named, NamedTake}
 use Rattle.matching.specs.ExampleBooks.{sell, marked, minimum, sells}
 

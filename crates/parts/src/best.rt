@@ -5,7 +5,7 @@ use units::Shares;
 ghost use mathlib.Core.Path.{_≡_};
 ghost use Prim.Native.Nat.{_≤_};
 ghost use lib.ListN.{length, take};
-ghost use Rattle.units.specs.Lists.{orZero, filter, total};
+ghost use Rattle.units.specs.Lists.{filter, total};
 ghost use Rattle.units.proofs.Members.{Every};
 ghost use Rattle.parts.specs.Narrowed.{minimumParagraph, ofRank, freeShares, Narrowed};
 
@@ -34,19 +34,13 @@ fn minimum_paragraph(algorithm: Algorithm) -> u64
     }
 }
 
-fn one_if(test: bool) -> u32
-    ensures { λ r. ⌜ (r ≡ orZero test 1) × (r ≤ 1) ⌝ }
-{
-    if test { 1 } else { 0 }
-}
-
 // The shares of a part of this rank, where it stands in another paragraph's group than this one.
 fn free_shares(key: u64, rank: u64, excluded: u64) -> Shares
     ensures { λ r. ⌜ ((alg : Algorithm) → excluded ≡ minimumParagraph alg → r .0 ≡ freeShares alg rank key) ⌝ }
 {
     let test = (key::rank(key) == rank) & !(key::group(key) % 8 == excluded);
     let shares = key::shares(key);
-    Shares(one_if(test) * shares.0)
+    Shares(units::one_if(test) * shares.0)
 }
 
 // The shares of the parts of a rank that have no minimum.
@@ -73,7 +67,7 @@ fn keep(keys: &mut [u64], rank: u64) -> usize
     while k < keys.len() {
         let key = keys[k];
         keys[count] = key;
-        count += one_if(key::rank(key) == rank) as usize;
+        count += units::one_if(key::rank(key) == rank) as usize;
         k += 1;
     }
     count

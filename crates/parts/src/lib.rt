@@ -48,12 +48,6 @@ fn paragraph_numbers(algorithm: Algorithm) -> [u64; 8]
     }
 }
 
-fn one_if(test: bool) -> usize
-    ensures { λ r. ⌜ (r ≡ orZero test 1) × (r ≤ 1) ⌝ }
-{
-    if test { 1 } else { 0 }
-}
-
 // The part of an order by the numbers of its record.
 fn part_of(numbers: Numbers, place: usize, side: Side, paragraphs: &[u64], lot: Shares) -> u64
     requires { ⌜ (place < 512)
@@ -64,7 +58,7 @@ fn part_of(numbers: Numbers, place: usize, side: Side, paragraphs: &[u64], lot: 
         → ((n l : ℕ) (kind : Kind) → getD (now (paragraphs .entry)) (2 * kindNumber kind + orZero (ltb n l) 1) 0 ≡ paragraphFor l alg kind n)
         → r ≡ partKey (lot .0) alg side place o) ⌝ }
 {
-    let column = 2 * (numbers.kind as usize) + one_if(numbers.size < lot.0);
+    let column = 2 * (numbers.kind as usize) + (units::one_if(numbers.size < lot.0) as usize);
     key::key_of(
         rank_on(side, numbers.price),
         paragraphs[column],
@@ -107,7 +101,7 @@ fn collect(
     while i < n {
         let numbers = records::numbers_at(book, RECORD_BYTES * i);
         keys[count] = part_of(numbers, i, side, &paragraphs, lot);
-        count += one_if(may_meet(numbers, incoming));
+        count += units::one_if(may_meet(numbers, incoming)) as usize;
         i += 1;
     }
     count

@@ -6,7 +6,7 @@ use mathlib.Core.List.{List, [], _∷_, map}
 use native.Mathlib.Omega.{arith}
 use native.Mathlib.Nat.{zero-add, sub-zero}
 use lib.Dec.{eqb}
-use Rattle.units.specs.Lists.{any, filter, consIf, orZero, total}
+use Rattle.units.specs.Lists.{any, orZero, total}
 use Rattle.units.proofs.Tests.{pick-zero}
 use Rattle.units.proofs.Members.{Every, every-weaken}
 use Rattle.sharing.specs.Rank.{Part, place, ranked, Rising}
@@ -19,25 +19,6 @@ pub data Thin (Z : Part → Type 0) : List Part → List Part → Type 0 where
   none : Thin Z [] []
   keep : {p : Part} {ps qs : List Part} → Thin Z ps qs → Thin Z (p ∷ ps) (p ∷ qs)
   drop : {p : Part} {ps qs : List Part} → Z p → Thin Z ps qs → Thin Z (p ∷ ps) qs
-
--- a filter leaves out those that don't pass its test
-pub thin-filter : (f : Part → Bool) (ps : List Part) → Thin (λ p. f p ≡ false) ps (filter f ps)
-thin-filter f [] = none
-thin-filter f (p ∷ ps) = go (f p) refl (thin-filter f ps)
-  where
-    go : (b : Bool) → f p ≡ b → Thin (λ q. f q ≡ false) ps (filter f ps) → Thin (λ q. f q ≡ false) (p ∷ ps) (consIf b p (filter f ps))
-    go true e t = keep t
-    go false e t = drop e t
-
-rising-down : {m l : ℕ} (ps : List Part) → m ≤ l → Rising l ps → Rising m ps
-rising-down [] h r = tt
-rising-down (p ∷ ps) h r = let l = r .0 in (omega arith, r .1)
-
--- the numbers of those kept rise
-pub thin-rising : {Z : Part → Type 0} (m : ℕ) {ps qs : List Part} → Thin Z ps qs → Rising m ps → Rising m qs
-thin-rising m none r = tt
-thin-rising m (keep {p = p} t) r = (r .0, thin-rising (p .number) t (r .1))
-thin-rising m (drop {p = p} {qs = qs} z t) r = rising-down qs (omega arith) (thin-rising (p .number) t (r .1))
 
 -- what holds of every part holds of those kept
 pub thin-every : {Z : Part → Type 0} (P : Part → Type 0) {ps qs : List Part} → Thin Z ps qs → Every P ps → Every P qs

@@ -46,10 +46,6 @@ module _ {A : Type 0} where
   all-member p (y ∷ ys) e x (List·Memᴰ·head k) = ap p k ∙ and-true (p y) (all p ys) e .0
   all-member p (y ∷ ys) e x (List·Memᴰ·tail k) = all-member p ys (and-true (p y) (all p ys) e .1) x k
 
-  pub member-all : (p : A → Bool) (xs : List A) → ((x : A) → List·Memᴰ x xs → p x ≡ true) → all p xs ≡ true
-  member-all p [] h = refl
-  member-all p (x ∷ xs) h = rw (h x (List·Memᴰ·head refl)) (member-all p xs (λ y m. h y (List·Memᴰ·tail m)))
-
   pub any-member : (p : A → Bool) (xs : List A) (x : A) → List·Memᴰ x xs → p x ≡ true → any p xs ≡ true
   any-member p [] x m e = absurd (List·Memᴰ·not-nil m)
   any-member p (y ∷ ys) x (List·Memᴰ·head k) e = rw (ap p (sym k) ∙ e)

@@ -1,7 +1,7 @@
 // Shares, round lots and prices, counted apart: one is never taken for another.
 ghost use mathlib.Core.Path.{_≡_};
-ghost use Prim.Native.Nat.{_+_, _-_, _*_, _/_, _^_, _<_, min};
-ghost use Rattle.units.specs.Lists.{inRange};
+ghost use Prim.Native.Nat.{_+_, _-_, _*_, _/_, _^_, _≤_, _<_, min};
+ghost use Rattle.units.specs.Lists.{inRange, orZero};
 ghost use Rattle.units.specs.Lots.{roundLot};
 
 // A count of shares.
@@ -53,6 +53,13 @@ pub fn shares_of(lots: Lots, lot: Shares) -> Shares
     ensures { λ r. ⌜ r .0 ≡ lots .0 * lot .0 ⌝ }
 {
     Shares(lots.0 * lot.0)
+}
+
+// 1 where a test holds, else 0: a factor, or a step of an index, in place of a branch.
+pub fn one_if(test: bool) -> u32
+    ensures { λ r. ⌜ (r ≡ orZero test 1) × (r ≤ 1) ⌝ }
+{
+    if test { 1 } else { 0 }
 }
 
 // Whether n is one of lo .. hi.

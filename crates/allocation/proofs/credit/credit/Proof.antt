@@ -37,14 +37,14 @@ slice-write-fills c =
     let n = begun-next (l .before .loop .inv) (l .loop-test .taken) in
     omega arith
 
-mul-t13-2 : tie.Need-mul-t13-2 Inv-loop μ-loop
-mul-t13-2 c =
+mul-count-2 : tie.Need-mul-count-2 Inv-loop μ-loop
+mul-count-2 c =
     let l = c .before .before .before .before in
     let n = begun-next (l .before .loop .inv) (l .loop-test .taken) in
     omega (arith, c .before .place .ensures)
 
-slice-read-t18 : tie.Need-slice-read-t18 Inv-loop μ-loop
-slice-read-t18 c =
+slice-read-count : tie.Need-slice-read-count Inv-loop μ-loop
+slice-read-count c =
     let l = c .before .before .before .before .before in
     let n = begun-next (l .before .loop .inv) (l .loop-test .taken) in
     omega (arith, c .before .before .place .ensures)
@@ -100,5 +100,5 @@ credit-spec =
     tie.close
     (tie.spec
     Inv-loop μ-loop loop-holds (λ c. search needs) (λ c. search needs) (λ c. search needs) (λ c. search needs) (λ c κs. search needs)
-    with-shares-requires mul-fills slice-write-fills mul-t13-2 slice-read-t18 sum-requires mul-allotment slice-write-allotment sum-requires-2
-    (λ c κs. search needs) add-count (λ c. search needs) (λ c. search needs) loop-again (λ c κs. search needs) same-length same-length-2 returns)
+    with-shares-requires mul-fills slice-write-fills mul-count-2 slice-read-count sum-requires mul-allotment slice-write-allotment sum-requires-2
+    (λ c κs. search needs) (λ c. search needs) add-count (λ c. search needs) (λ c. search needs) loop-again (λ c κs. search needs) same-length same-length-2 returns)

@@ -24,14 +24,14 @@ mul-t21 c =
     let a = c .before .before .before .before .before .before .before .before .args in
     let l = c .before .before .before .before .loop in
     let x = getD (a .keys .now) (a .place) 0 in
-    omega (arith, ahead-more x (a .place) (a .keys .now) (a .wants .now) (l .j) (omega arith) (omega arith) (c .one-if .ensures) (l .sum .0) (l .inv))
+    omega (arith, ahead-more x (a .place) (a .keys .now) (a .wants .now) (l .j) (omega arith) (omega arith) (c .one-if .ensures .0) (l .sum .0) (l .inv))
 
 sum-requires : tie.Need-sum-requires Inv-loop μ-loop
 sum-requires c κs =
     let a = c .before .before .before .before .before .before .before .before .args in
     let l = c .before .before .before .before .loop in
     let x = getD (a .keys .now) (a .place) 0 in
-    omega (arith, ahead-more x (a .place) (a .keys .now) (a .wants .now) (l .j) (omega arith) (omega arith) (c .one-if .ensures) (l .sum .0) (l .inv))
+    omega (arith, ahead-more x (a .place) (a .keys .now) (a .wants .now) (l .j) (omega arith) (omega arith) (c .one-if .ensures .0) (l .sum .0) (l .inv))
 
 loop-again : tie.Need-loop-again Inv-loop μ-loop
 loop-again c =
@@ -39,7 +39,7 @@ loop-again c =
     let l = c .before .before .before .before .before .loop in
     let s = c .sum .ensures in
     let x = getD (a .keys .now) (a .place) 0 in
-    omega (arith, ahead-more x (a .place) (a .keys .now) (a .wants .now) (l .j) (omega arith) (omega arith) (c .before .one-if .ensures) (l .sum .0) (l .inv))
+    omega (arith, ahead-more x (a .place) (a .keys .now) (a .wants .now) (l .j) (omega arith) (omega arith) (c .before .one-if .ensures .0) (l .sum .0) (l .inv))
 
 returns : tie.Need-returns Inv-loop μ-loop
 returns c =

@@ -21,20 +21,20 @@ mul-t13 : tie.Need-mul-t13 Inv-loop μ-loop
 mul-t13 c =
     let a = c .before .before .before .before .before .before .before .args in
     let l = c .before .before .before .before .loop in
-    omega (arith, above-more (a .t) (a .keys .now) (a .wants .now) (l .j) (omega arith) (omega arith) (c .one-if .ensures) (l .sum .0) (l .inv))
+    omega (arith, above-more (a .t) (a .keys .now) (a .wants .now) (l .j) (omega arith) (omega arith) (c .one-if .ensures .0) (l .sum .0) (l .inv))
 
 sum-requires : tie.Need-sum-requires Inv-loop μ-loop
 sum-requires c κs =
     let a = c .before .before .before .before .before .before .before .args in
     let l = c .before .before .before .before .loop in
-    omega (arith, above-more (a .t) (a .keys .now) (a .wants .now) (l .j) (omega arith) (omega arith) (c .one-if .ensures) (l .sum .0) (l .inv))
+    omega (arith, above-more (a .t) (a .keys .now) (a .wants .now) (l .j) (omega arith) (omega arith) (c .one-if .ensures .0) (l .sum .0) (l .inv))
 
 loop-again : tie.Need-loop-again Inv-loop μ-loop
 loop-again c =
     let a = c .before .before .before .before .before .before .before .before .args in
     let l = c .before .before .before .before .before .loop in
     let s = c .sum .ensures in
-    omega (arith, above-more (a .t) (a .keys .now) (a .wants .now) (l .j) (omega arith) (omega arith) (c .before .one-if .ensures) (l .sum .0) (l .inv))
+    omega (arith, above-more (a .t) (a .keys .now) (a .wants .now) (l .j) (omega arith) (omega arith) (c .before .one-if .ensures .0) (l .sum .0) (l .inv))
 
 returns : tie.Need-returns Inv-loop μ-loop
 returns c =

@@ -27,21 +27,21 @@ mul-gets-2 c =
     let k = c .before .before .before .before .before .before .before .before .before in
     let a = k .args in
     let j = c .before .before .before .before .before .loop .j in
-    omega (arith, picked-least (ltb (a .t) (getD (a .keys .now) j 0)) (getD (a .wants .now) j 0) (c .one-if .ensures), k .pre .2 j)
+    omega (arith, picked-least (ltb (a .t) (getD (a .keys .now) j 0)) (getD (a .wants .now) j 0) (c .one-if .ensures .0), k .pre .2 j)
 
 add-gets : tie.Need-add-gets Inv-loop μ-loop
 add-gets c =
     let k = c .before .before .before .before .before .before .before .before .before in
     let a = k .args in
     let l = c .before .before .before .before .before .loop in
-    let w = picked-least (ltb (a .t) (getD (a .keys .now) (l .j) 0)) (getD (a .wants .now) (l .j) 0) (c .one-if .ensures) in
+    let w = picked-least (ltb (a .t) (getD (a .keys .now) (l .j) 0)) (getD (a .wants .now) (l .j) 0) (c .one-if .ensures .0) in
     omega (arith, put-at (l .inv), k .pre .2 (l .j))
 
 loop-again : tie.Need-loop-again Inv-loop μ-loop
 loop-again c =
     let a = c .before .before .before .before .before .before .before .before .before .args in
     let l = c .before .before .before .before .before .loop in
-    let e = picked (ltb (a .t) (getD (a .keys .now) (l .j) 0)) (getD (a .wants .now) (l .j) 0) (c .one-if .ensures) in
+    let e = picked (ltb (a .t) (getD (a .keys .now) (l .j) 0)) (getD (a .wants .now) (l .j) 0) (c .one-if .ensures .0) in
     put-more (l .inv) (omega arith)
     (added-more (a .gets .now) (l .j) (omega arith) (zip-more (wantAbove (a .t)) (a .keys .now) (a .wants .now) (l .j) (omega arith) (omega arith))
     ∙ rw (put-at (l .inv), e))
