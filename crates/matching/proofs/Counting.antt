@@ -11,7 +11,7 @@ use Rattle.units.specs.Lists.{consIf, orZero, total, flatMap}
 use Rattle.units.proofs.Tests.{and-false, false-and, pick-least}
 use Rattle.units.proofs.Members.{every-member}
 use Rattle.units.proofs.Totals.{total-add, total-append, total-le, total-none, total-same}
-use Rattle.sharing.specs.Rank.{Part, partSize}
+use Rattle.sharing.specs.Rank.{Part}
 use Rattle.orders.specs.declared.order.Side.{Side}
 use Rattle.orders.specs.declared.order.Order.{Order}
 use Rattle.orders.specs.declared.order.Taker.{Taker}
@@ -26,7 +26,7 @@ use Rattle.matching.specs.Levels.{priceLevels}
 use Rattle.matching.specs.Paragraph.{groupOf, inGroup, partOf, paragraphs, paragraphNumber}
 use Rattle.matching.specs.Take.{Allocation, used, allocationAt, allocationsAt, allocationsOver, allocations, executionsBy, executionsOf}
 use Rattle.matching.proofs.Levels.{Sorted, levels-sorted, better-apart}
-use Rattle.matching.proofs.Parts.{stands, part-out, allotShare, partsAt, allotted, part-none}
+use Rattle.matching.proofs.Parts.{stands, allotShare, partsAt, allotted, share-none}
 use Rattle.matching.proofs.Places.{groupHome, elsewhere}
 
 module _ {A : Type 0} where
@@ -150,14 +150,10 @@ module _ (lot : ℕ) (alg : Algorithm) (t : Taker) (os : List Order) (rise : ris
     abbrev share : Part → ℕ
     share = allotShare lot alg g left (partsAt lot alg t os price g)
 
-    -- an order that doesn't stand there gets nothing
-    share-none : (o : Order) → List·Memᴰ o os → standsAt lot alg t o price g ≡ false → ltb 0 (share (part o)) ≡ false
-    share-none o m e = ap (ltb 0) (part-none lot alg t os rise price g left o m (ap partSize (part-out t price (groupOf lot alg g) o e)))
-
     -- an allocation makes no more executions than orders stand there
     row-most : made (allocationAt lot alg t os price g left) ≤ count (λ o. standsAt lot alg t o price g) os
     row-most = rw (allotted lot alg t os price g left, executions-count)
-        (count-le (λ o. ltb 0 (share (part o))) (λ o. standsAt lot alg t o price g) os share-none)
+        (count-le (λ o. ltb 0 (share (part o))) (λ o. standsAt lot alg t o price g) os (share-none lot alg t os rise price g left))
 
   -- the allocations at a price no more than the places that orders have in its paragraphs
   level-most : (price : ℕ) (gs : List Paragraph) (left : ℕ) → total made (allocationsAt lot alg t os price gs left) ≤ total (placesAt lot alg t gs price) os

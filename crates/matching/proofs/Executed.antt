@@ -1,14 +1,15 @@
 -- Every execution of a take is of an order of the book, at its price, and names the paragraph in whose group the order is.
 use Prim.Native.Nat.{ℕ, _≤_, _<_}
-use mathlib.Core.Path.{_≡_, refl, sym, ap, _∙_}
-use mathlib.Core.Bool.{Bool, true, false, true≢false}
+use mathlib.Core.Path.{_≡_, refl, sym}
+use mathlib.Core.Bool.{Bool, true, false}
 use mathlib.Core.List.{List, [], _∷_, map, List·Memᴰ}
 use native.Mathlib.Omega.{arith}
 use lib.Dec.{ltb}
 use Rattle.units.specs.Lists.{consIf}
+use Rattle.units.proofs.Tests.{true-back}
 use Rattle.units.proofs.Totals.{total-member}
 use Rattle.units.proofs.Members.{Every, every-member, member-every, every-flat}
-use Rattle.sharing.specs.Rank.{Part, partSize}
+use Rattle.sharing.specs.Rank.{Part}
 use Rattle.orders.specs.declared.order.Order.{Order}
 use Rattle.orders.specs.declared.order.Taker.{Taker}
 use Rattle.orders.specs.Order.{priceOf}
@@ -24,7 +25,7 @@ use Rattle.matching.specs.Levels.{priceLevels}
 use Rattle.matching.specs.Paragraph.{groupOf, inGroup, partOf, paragraphNumber}
 use Rattle.matching.specs.Take.{Allocation, allocationAt, allocations, executionsBy, executionsOf, outcome}
 use Rattle.matching.specs.Fairness.{executedShares}
-use Rattle.matching.proofs.Parts.{stands, part-out, allotShare, partsAt, allotted, part-none, every-over}
+use Rattle.matching.proofs.Parts.{stands, allotShare, partsAt, allotted, share-none, every-over}
 use Rattle.matching.proofs.Groups.{stands-means}
 use Rattle.matching.proofs.Places.{number-numbered}
 use Rattle.matching.proofs.Unmet.{left-over}
@@ -60,16 +61,6 @@ module _ (lot : ℕ) (alg : Algorithm) (t : Taker) (os : List Order) (rise : ris
   made a = executionsBy (paragraphNumber (a .paragraph)) (a .price) os (a .allotment)
 
   -- who is given shares stands in the paragraph's group at the price
-  given-stands : (price : ℕ) (g : Paragraph) (left : ℕ) (o : Order) → List·Memᴰ o os
-      → ltb 0 (allotShare lot alg g left (partsAt lot alg t os price g) (partOf t price (groupOf lot alg g) o)) ≡ true → stands t price (groupOf lot alg g) o ≡ true
-  given-stands price g left o m e = go (stands t price (groupOf lot alg g) o) refl
-    where
-      go : (b : Bool) → stands t price (groupOf lot alg g) o ≡ b → b ≡ true
-      go true s = refl
-      go false s =
-          let z = part-none lot alg t os rise price g left o m (ap partSize (part-out t price (groupOf lot alg g) o s)) in
-          absurd (true≢false (sym e ∙ ap (ltb 0) z))
-
   placed-at : (price : ℕ) (g : Paragraph) (left : ℕ) → Every (Placed lot alg os) (made (allocationAt lot alg t os price g left))
   unfolding allocationAt
   placed-at price g left =
@@ -80,7 +71,7 @@ module _ (lot : ℕ) (alg : Algorithm) (t : Taker) (os : List Order) (rise : ris
       (member-every (λ o. ltb 0 (f (partOf t price group o)) ≡ true → Placed lot alg os
       (record { number = o .number; price = record { 0 = price }; shares = record { 0 = f (partOf t price group o) }; paragraph = paragraphNumber g })) os
       (λ o m e.
-      let s = stands-means t price group o (given-stands price g left o m e) in
+      let s = stands-means t price group o (true-back (stands t price group o) (share-none lot alg t os rise price g left o m) e) in
       record { order = o; member = m; number = refl; price = sym (s .1); paragraph = g; inside = s .2; names = refl })))
 
 -- the executions of a take are placed

@@ -1,6 +1,6 @@
 -- The parts of a book's orders in a group, and what each gets of an allotment, for every algorithm and paragraph.
 use Prim.Native.Nat.{ℕ, _-_}
-use mathlib.Core.Path.{_≡_, refl, _∙_}
+use mathlib.Core.Path.{_≡_, refl, ap, _∙_}
 use mathlib.Core.Bool.{Bool, true, false, _&&_}
 use mathlib.Core.List.{List, [], _∷_, map, List·Memᴰ, Memᴰ·map}
 use lib.Dec.{ltb, eqb}
@@ -9,7 +9,7 @@ use borrow.Author.Tests.{ltb-true}
 use Rattle.units.specs.Lists.{orZero, total}
 use Rattle.units.proofs.Tests.{and-true}
 use Rattle.units.proofs.Members.{Every, every-append}
-use Rattle.sharing.specs.Rank.{Part, noPart, Rising}
+use Rattle.sharing.specs.Rank.{Part, noPart, partSize, Rising}
 use Rattle.sharing.proofs.Methods.{shareBy, by-map, by-none}
 use Rattle.orders.specs.declared.order.Order.{Order}
 use Rattle.orders.specs.declared.order.Taker.{Taker}
@@ -110,6 +110,11 @@ module _ (lot : ℕ) (alg : Algorithm) (t : Taker) (os : List Order) where
         let group = groupOf lot alg g in
         by-none 0 (partsAt price g) (parts-rising t price group 0 os rise) (partOf t price group o) (Memᴰ·map (partOf t price group) i) z (methodOf alg g) lot left
 
-    -- and its entry says so
+    -- nor one that doesn't stand there
+    pub share-none : stands t price (groupOf lot alg g) o ≡ false
+        → ltb 0 (allotShare lot alg g left (partsAt price g) (partOf t price (groupOf lot alg g) o)) ≡ false
+    share-none e = ap (ltb 0) (part-none (ap partSize (part-out t price (groupOf lot alg g) o e)))
+
+    -- the entry of an order whose part has no size says that it is given nothing
     pub entry-none : partOf t price (groupOf lot alg g) o .size ≡ 0 → shareIn (o .number) os (allocationAt lot alg t os price g left .allotment) ≡ 0
     entry-none z = entry-is ∙ part-none z

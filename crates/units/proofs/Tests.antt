@@ -1,6 +1,6 @@
 -- Laws of tests, and of a number that a test picks.
 use Prim.Native.Nat.{ℕ, _+_, _≤_}
-use mathlib.Core.Path.{_≡_, refl, sym}
+use mathlib.Core.Path.{_≡_, refl, sym, _∙_}
 use mathlib.Core.Bool.{Bool, true, false, not, _&&_, _||_, true≢false, false≢true}
 use native.Mathlib.Omega.{arith}
 use lib.Dec.{T}
@@ -33,6 +33,11 @@ pub same-test : (a b : Bool) → (a ≡ true → b ≡ true) → (b ≡ true →
 same-test true b h k = sym (h refl)
 same-test false true h k = k refl
 same-test false false h k = refl
+
+-- a test that fails wherever another does holds nowhere but where that one does
+pub true-back : (a : Bool) {b : Bool} → (a ≡ false → b ≡ false) → b ≡ true → a ≡ true
+true-back true h e = refl
+true-back false h e = absurd (false≢true (sym (h refl) ∙ e))
 
 pub T-true : (b : Bool) → T b → b ≡ true
 T-true true h = refl
