@@ -1,5 +1,5 @@
 -- What parts get, kept: part by part, and parts behind others.
-use Prim.Native.Nat.{ℕ, suc, _+_, _-_, _≤_, _<_, min}
+use Prim.Native.Nat.{ℕ, suc, _+_, _-_, _^_, _≤_, _<_, min}
 use mathlib.Core.Path.{_≡_, refl, sym, ap, _∙_}
 use mathlib.Core.Bool.{Bool, true, false}
 use mathlib.Core.List.{List, [], _∷_, _++_, map, map-append, append-nil, append-assoc}
@@ -178,11 +178,15 @@ module _ {keys gets : List ℕ} {start : Ledger} {k used count : ℕ} {fills all
           sum = omega (arith, spent-more, s .enough, s .room .bounded 0);
         }
 
+    -- its record may be noted
+    pub begun-note : {place shares : ℕ} → place ≡ placeIn key → shares ≡ n → (place < length allotment) × (getD allotment place 0 + shares < 2 ^ 32)
+    begun-note p e = let b = begun-next in rw (p, e) (b .entry, omega (arith, b .small))
+
     -- it gets its shares
-    pub begun-more : {fill place shares spent counted : ℕ} → fill ≡ withShares n key → place ≡ placeIn key → shares ≡ getD allotment place 0 + n
-        → spent ≡ used + n → counted ≡ count + orZero (ltb 0 n) 1
-        → Begun keys gets start (k + 1) spent counted (set fills count fill) (set allotment place shares)
-    begun-more f p g u m = rw (g, f, p, u, m) (record {
+    pub begun-more : {fill place shares spent counted : ℕ} → fill ≡ withShares n key → place ≡ placeIn key → shares ≡ n → spent ≡ used + shares
+        → counted ≡ count + orZero (ltb 0 n) 1
+        → Begun keys gets start (k + 1) spent counted (set fills count fill) (set allotment place (getD allotment place 0 + shares))
+    begun-more f p e u m = rw (u, e, f, p, m) (record {
       room = s .room;
       many = s .many;
       enough = s .enough;

@@ -4,12 +4,20 @@ use parts::key;
 use units::Shares;
 ghost use mathlib.Core.Path.{_≡_};
 ghost use mathlib.Core.List.{map};
-ghost use Prim.Native.Nat.{_≤_, _<_};
-ghost use lib.ListN.{length};
+ghost use Prim.Native.Nat.{_+_, _^_, _≤_, _<_};
+ghost use lib.ListN.{length, getD, set};
 ghost use Rattle.units.specs.Lists.{sum, total};
 ghost use Rattle.units.proofs.Members.{Every};
 ghost use Rattle.parts.specs.Key.{sharesIn};
 ghost use Rattle.allocation.specs.Credit.{ledger, Room, Credited};
+
+// A record got so many shares more.
+fn note(allotment: &mut [u32], place: usize, shares: Shares)
+    requires { ⌜ (place < length (now allotment)) × (getD (now allotment) place 0 + shares .0 < 2 ^ 32) ⌝ }
+    ensures { λ _. ⌜ now (allotment .exit) ≡ set (now (allotment .entry)) place (getD (now (allotment .entry)) place 0 + shares .0) ⌝ }
+{
+    allotment[place] = units::sum(Shares(allotment[place]), shares).0;
+}
 
 // Each part is filled.
 pub(crate) fn fill(
@@ -30,9 +38,8 @@ pub(crate) fn fill(
     while k < keys.len() {
         let key = keys[k];
         let shares = key::shares(key);
-        let place = key::place(key);
         fills[from.count + k] = key;
-        allotment[place] = units::sum(Shares(allotment[place]), shares).0;
+        note(allotment, key::place(key), shares);
         used = units::sum(used, shares);
         k += 1;
     }
@@ -63,9 +70,8 @@ pub(crate) fn credit(
     while k < keys.len() {
         let key = keys[k];
         let shares = Shares(gets[k]);
-        let place = key::place(key);
         fills[count] = key::with_shares(key, shares);
-        allotment[place] = units::sum(Shares(allotment[place]), shares).0;
+        note(allotment, key::place(key), shares);
         used = units::sum(used, shares);
         count += units::one_if(0 < shares.0) as usize;
         k += 1;

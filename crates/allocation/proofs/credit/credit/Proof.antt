@@ -1,11 +1,11 @@
 -- `allocation::credit::credit` meets its contract: the first k parts have got their shares.
 use Prim.Native.Nat.{_+_, _-_}
-use mathlib.Core.Path.{ap}
+use mathlib.Core.Path.{refl, ap}
 use native.Mathlib.Omega.{arith}
 use borrow.Author.Needs.{needs}
-use lib.ListN.{length, getD}
+use lib.ListN.{length}
 use Rattle.allocation.specs.Credit.{ledger}
-use Rattle.allocation.proofs.Crediting.{Begun, begun-none, begun-next, begun-more, begun-all}
+use Rattle.allocation.proofs.Crediting.{Begun, begun-none, begun-next, begun-note, begun-more, begun-all}
 use Rattle.allocation.proofs.credit.credit.Statement.{statement}
 use Rattle.allocation.proofs.credit.credit.Tie as tie
 
@@ -21,70 +21,47 @@ loop-holds c = let p = c .before .before .before .before .before .pre in begun-n
 
 with-shares-requires : tie.Need-with-shares-requires Inv-loop μ-loop
 with-shares-requires c κs =
-    let l = c .before .before .before in
+    let l = c .before .before in
     let n = begun-next (l .before .loop .inv) (l .loop-test .taken) in
     omega arith
 
 mul-fills : tie.Need-mul-fills Inv-loop μ-loop
 mul-fills c =
-    let l = c .before .before .before .before in
+    let l = c .before .before .before in
     let n = begun-next (l .before .loop .inv) (l .loop-test .taken) in
     omega arith
 
 slice-write-fills : tie.Need-slice-write-fills Inv-loop μ-loop
 slice-write-fills c =
-    let l = c .before .before .before .before in
+    let l = c .before .before .before in
     let n = begun-next (l .before .loop .inv) (l .loop-test .taken) in
     omega arith
 
-mul-count-2 : tie.Need-mul-count-2 Inv-loop μ-loop
-mul-count-2 c =
-    let l = c .before .before .before .before in
-    let n = begun-next (l .before .loop .inv) (l .loop-test .taken) in
-    omega (arith, c .before .place .ensures)
-
-slice-read-count : tie.Need-slice-read-count Inv-loop μ-loop
-slice-read-count c =
+note-requires : tie.Need-note-requires Inv-loop μ-loop
+note-requires c κs =
     let l = c .before .before .before .before .before in
-    let n = begun-next (l .before .loop .inv) (l .loop-test .taken) in
-    omega (arith, c .before .before .place .ensures)
+    begun-note (l .before .loop .inv) (l .loop-test .taken) (c .place .ensures) refl
 
 sum-requires : tie.Need-sum-requires Inv-loop μ-loop
 sum-requires c κs =
-    let l = c .before .before .before .before .before in
-    let n = begun-next (l .before .loop .inv) (l .loop-test .taken) in
-    omega (arith, ap (λ p. getD (l .before .loop .allotment) p 0) (c .before .before .place .ensures))
-
-mul-allotment : tie.Need-mul-allotment Inv-loop μ-loop
-mul-allotment c =
-    let l = c .before .before .before .before .before .before in
-    let n = begun-next (l .before .loop .inv) (l .loop-test .taken) in
-    omega (arith, c .before .before .before .place .ensures)
-
-slice-write-allotment : tie.Need-slice-write-allotment Inv-loop μ-loop
-slice-write-allotment c =
-    let l = c .before .before .before .before .before .before in
-    let n = begun-next (l .before .loop .inv) (l .loop-test .taken) in
-    omega (arith, c .before .before .before .place .ensures)
-
-sum-requires-2 : tie.Need-sum-requires-2 Inv-loop μ-loop
-sum-requires-2 c κs =
-    let l = c .before .before .before .before .before .before in
+    let l = c .before .before .before .before .before .before .before .before in
     let n = begun-next (l .before .loop .inv) (l .loop-test .taken) in
     omega arith
 
 add-count : tie.Need-add-count Inv-loop μ-loop
 add-count c =
-    let l = c .before .before .before .before .before .before .before .before .before in
+    let l = c .before .before .before .before .before .before .before .before .before .before .before in
     let n = begun-next (l .before .loop .inv) (l .loop-test .taken) in
     omega (arith, c .one-if .ensures)
 
 loop-again : tie.Need-loop-again Inv-loop μ-loop
 loop-again c =
-    let w = c .before .before .before .before .before in
-    let l = w .before .before .before .before in
-    begun-more (l .before .loop .inv) (l .loop-test .taken) (w .with-shares .ensures) (w .before .place .ensures) (c .before .before .before .sum .ensures)
-    (c .before .before .sum2 .ensures) (ap (λ n. l .before .loop .count + n) (c .one-if .ensures .0))
+    let t = c .before .before .before .before .before in
+    let w = t .before .before .before in
+    let l = w .before .before .before in
+    rw (t .note .ensures)
+    (begun-more (l .before .loop .inv) (l .loop-test .taken) (w .with-shares .ensures) (t .before .place .ensures) refl
+    (c .before .before .sum .ensures) (ap (λ n. l .before .loop .count + n) (c .one-if .ensures .0)))
 
 same-length : tie.Need-same-length Inv-loop μ-loop
 same-length c = c .before .before .loop .inv .credited .room
@@ -99,6 +76,6 @@ pub credit-spec : {M : Type 1} → statement M
 credit-spec =
     tie.close
     (tie.spec
-    Inv-loop μ-loop loop-holds (λ c. search needs) (λ c. search needs) (λ c. search needs) (λ c. search needs) (λ c κs. search needs)
-    with-shares-requires mul-fills slice-write-fills mul-count-2 slice-read-count sum-requires mul-allotment slice-write-allotment sum-requires-2
-    (λ c κs. search needs) (λ c. search needs) add-count (λ c. search needs) (λ c. search needs) loop-again (λ c κs. search needs) same-length same-length-2 returns)
+    Inv-loop μ-loop loop-holds (λ c. search needs) (λ c. search needs) (λ c. search needs) (λ c. search needs)
+    with-shares-requires mul-fills slice-write-fills (λ c κs. search needs) note-requires sum-requires (λ c κs. search needs) (λ c. search needs)
+    add-count (λ c. search needs) (λ c. search needs) loop-again (λ c κs. search needs) same-length same-length-2 returns)
