@@ -86,7 +86,7 @@ unfolding bytes encode decode executionOf
 named = record { order = fourth; member = List·Memᴰ·head refl; number = refl; paragraph = Three; inside = tt; alone = alone; byte2 = refl; byte3 = refl }
 
 -- the execution is of the order, and byte 2 is 3
-only : {o : Order} → List·Memᴰ o (fourth ∷ []) → o ≡ fourth
+only : {o p : Order} → List·Memᴰ o (p ∷ []) → o ≡ p
 only (List·Memᴰ·head e) = e
 only (List·Memᴰ·tail m) = absurd (List·Memᴰ·not-nil m)
 
@@ -98,6 +98,17 @@ misnamed : (Named 100 PriceTime (fourth ∷ []) (bytes 1) → ⊥) × (Named 100
     × (Named 100 PriceTime (fourth ∷ []) (set (bytes 3) 3 3) → ⊥) × (Named 100 PriceTime (fourth ∷ []) (set (bytes 3) 4 5) → ⊥)
 unfolding bytes encode decode executionOf
 misnamed = (λ n. omega (arith, three n), λ n. omega (arith, three n), λ n. omega (arith, n .byte3), λ n. omega (arith, n .number, ap (λ (o : Order). o .number) (only (n .member))))
+
+-- an order without shares is in no group, so that no number is right
+nowhere : Named 100 PriceTime (minimum 4 0 0 ∷ []) (bytes 3) → ⊥
+nowhere n = go (n .paragraph) (subst (λ (o : Order). T (inGroup (groupOf 100 PriceTime (n .paragraph)) o)) (only (n .member)) (n .inside))
+  where
+    go : (g : Paragraph) → T (inGroup (groupOf 100 PriceTime g) (minimum 4 0 0)) → ⊥
+    go Two i = i
+    go Three i = i
+    go Four i = i
+    go Five i = i
+    go Six i = i
 
 -- so an answer with such bytes is convicted
 answered-misnamed : NamedTake (record { side = 1; limit = 100000; size = 70; algorithm = 1 }) (bookOf 1 (fourth ∷ [])) (record {
