@@ -3,7 +3,7 @@ use units::Price;
 use units::Shares;
 ghost use mathlib.Core.Path.{_≡_};
 ghost use Rattle.orders.specs.Order.{sideNumber, sideOf, kindNumber, kindOf, minimumOf, isDisplayed, isMinimumQuantity};
-ghost use Rattle.orders.specs.Order.{interest, interestOf, allShares, settled};
+ghost use Rattle.orders.specs.Order.{interest, interestOf, allShares, settled, isResting};
 
 pub enum Side {
     Buy,
@@ -149,6 +149,15 @@ impl Order {
             size,
             setter: self.setter,
         }
+    }
+
+    // Whether it still rests after it lost displayed and non-displayed shares.
+    pub fn rests_after(self, shown: Shares, hidden: Shares) -> bool
+        ensures { λ r. ⌜ r ≡ isResting (settled (interest (shown .0) (hidden .0)) self) ⌝ }
+    {
+        let displayed = self.displayed();
+        let others = self.non_displayed();
+        (shown.0 < displayed.0) | (hidden.0 < others.0)
     }
 
     // The order after it lost displayed and non-displayed shares: a minimum above the new size becomes the new size.

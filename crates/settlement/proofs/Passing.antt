@@ -8,14 +8,13 @@ use native.Mathlib.Numerals.{add-one}
 use lib.ListN.{length, getD, take, drop, replicate, length-append, length-replicate, replicate-append-replicate}
 use lib.Seq.{take-all, drop-at}
 use lib.Dec.{ltb}
-use borrow.Author.Tests.{ltb-false, lt-ltb, le-ltb}
+use borrow.Author.Tests.{ltb-false, lt-ltb}
 use Rattle.units.specs.Lists.{filter, consIf, flatMap, zipWith}
 use Rattle.units.proofs.Tests.{or-false}
 use Rattle.units.proofs.Totals.{flat-last, cons-append}
 use Rattle.orders.specs.declared.order.Order.{Order}
-use Rattle.orders.specs.Order.{sizeOf, interest, interestOf, allShares, settled, isResting}
+use Rattle.orders.specs.Order.{sizeOf, interest, settled, isResting}
 use Rattle.orders.specs.Losses.{lossesIn}
-use Rattle.orders.proofs.Interests.{all-shares}
 use Rattle.record.specs.Codec.{replaced}
 use Rattle.record.specs.Record.{encodeOrder, decodeOrder}
 use Rattle.record.proofs.Numbers.{AreBytes}
@@ -93,23 +92,24 @@ module _ {s shown hidden b : List ℕ} {i kept : ℕ} (p : Passed s shown hidden
   front-long : 32 * kept ≡ length (flatMap (encodeOrder form) (rests s shown hidden i))
   front-long = ap (λ n. 32 * n) (p .count) ∙ sym (length-orders (rests s shown hidden i))
 
-  -- The next order, as it is read, and what the loss leaves of it.
-  module _ (h : i < length (ordersOf s)) (d e : ℕ)
-      {o left : Order} (q : o ≡ decodeOrder form (take 32 (drop (32 * i) b)))
-      (r : left ≡ settled (interest (getD shown i d) (getD hidden i e)) o) {size : ℕ} (m : size ≡ allShares (interestOf left)) where
+  -- The next order, as it is read.
+  module _ (h : i < length (ordersOf s)) (d e : ℕ) {o : Order} (q : o ≡ decodeOrder form (take 32 (drop (32 * i) b))) where
+    -- what the loss leaves of it
+    abbrev left : Order
+    left = settled (interest (getD shown i d) (getD hidden i e)) o
+
     -- it is the order of the book
     here : getD (ordersOf s) i o ≡ o
     here = order-get s i o h ∙ sym (q ∙ ap (λ t. decodeOrder form (take 32 t)) (p .bytes .same))
 
     -- it comes behind those that still rest, or not
     next : rests s shown hidden (i + 1) ≡ rests s shown hidden i ++ consIf (isResting left) left []
-    next = rw (add-one, r) (rw here at (resting-suc i shown hidden (ordersOf s) d e o (omega arith) (omega arith) h))
+    next = rw add-one (rw here at (resting-suc i shown hidden (ordersOf s) d e o (omega arith) (omega arith) h))
 
     -- it has no shares left, and leaves
-    pub passed-gone : size ≤ 0 → Passed s shown hidden b (i + 1) kept
+    pub passed-gone : isResting left ≡ false → Passed s shown hidden b (i + 1) kept
     passed-gone n =
-        let g = le-ltb 0 (sizeOf left) (omega (arith, m, all-shares left)) in
-        let t : rests s shown hidden (i + 1) ≡ rests s shown hidden i = next ∙ rw (g, append-nil) in
+        let t : rests s shown hidden (i + 1) ≡ rests s shown hidden i = next ∙ rw (n, append-nil) in
         record {
           begun = p .begun;
           few = omega arith;
@@ -119,10 +119,9 @@ module _ {s shown hidden b : List ℕ} {i kept : ℕ} (p : Passed s shown hidden
         }
 
     -- it still rests, and is written behind the others
-    pub passed-kept : 0 < size → Passed s shown hidden (replaced (32 * kept) (encodeOrder form left) b) (i + 1) (kept + 1)
+    pub passed-kept : isResting left ≡ true → Passed s shown hidden (replaced (32 * kept) (encodeOrder form left) b) (i + 1) (kept + 1)
     passed-kept n =
-        let g = lt-ltb 0 (sizeOf left) (omega (arith, m, all-shares left)) in
-        let t : rests s shown hidden (i + 1) ≡ rests s shown hidden i ++ (left ∷ []) = next ∙ rw g in
+        let t : rests s shown hidden (i + 1) ≡ rests s shown hidden i ++ (left ∷ []) = next ∙ rw n in
         record {
           begun = p .begun;
           few = omega arith;
@@ -147,11 +146,11 @@ module _ {s shown hidden b : List ℕ} {i kept : ℕ} (p : Passed s shown hidden
       let o = orderAt s i in
       let v = order-at-sound s i a h in
       let q : o ≡ decodeOrder form (take 32 (drop (32 * i) b)) = ap (λ t. decodeOrder form (take 32 t)) (sym (p .bytes .same)) in
-      let r : o ≡ settled (interest x y) o = rw (f, g) (sym (settled-nothing o v)) in
-      let l : 0 < allShares (interestOf o) = omega (arith, all-shares o, order-facts o v .size-least) in
+      let r : settled (interest x y) o ≡ o = rw (f, g) (settled-nothing o v) in
+      let l : isResting (settled (interest x y) o) ≡ true = rw r (lt-ltb 0 (sizeOf o) (order-facts o v .size-least)) in
       let w : encodeOrder form o ≡ take 32 (drop (32 * i) b) = record-here s i a h z ∙ ap (take 32) (sym (p .bytes .same)) in
       let j : replaced (32 * kept) (encodeOrder form o) b ≡ b = rw (k, w) (replaced-same (32 * i) 32 b (omega arith)) in
-      rw j at (passed-kept h d e q r refl l)
+      rw (r, j) at (passed-kept h d e q l)
 
   -- Every one of the n orders has lost its shares.
   module _ (a : sound s ≡ true) (z : AreBytes s) (n : ℕ) (e : i ≡ n) (h : n ≡ length (ordersOf s)) where

@@ -41,10 +41,10 @@ pub fn settle(book: &mut [u8], n: usize, shown: &[u32], hidden: &[u32])
     while i < n {
         if (0 < shown[i]) | (0 < hidden[i]) | (kept < i) {
             let order = records::order_at(book, RECORD_BYTES * i);
-            let left = order.settled(Shares(shown[i]), Shares(hidden[i]));
-            let size = left.shares();
-            if 0 < size.0 {
-                records::write_order(book, RECORD_BYTES * kept, left);
+            let s = Shares(shown[i]);
+            let h = Shares(hidden[i]);
+            if order.rests_after(s, h) {
+                records::write_order(book, RECORD_BYTES * kept, order.settled(s, h));
                 kept += 1;
             }
         } else {

@@ -1,6 +1,6 @@
 -- `settlement::settle` meets its contract: the first i orders have lost their shares.
 use Prim.Native.Nat.{_-_, _<_}
-use mathlib.Core.Path.{_∙_}
+use mathlib.Core.Path.{sym, _∙_}
 use mathlib.Core.Logic.{⊎-elim}
 use native.Mathlib.Omega.{arith}
 use borrow.Author.Needs.{needs}
@@ -29,10 +29,9 @@ loop-again c =
     let h : l .loop .i < length (ordersOf (a .book .now)) = search needs in
     let z = are-bytes (a .book .now) (λ k. omega (arith, e .slice-known .given k)) in
     ⊎-elim
-    (λ w. rw (w .13, w .14, w .10 .ensures)
-    (passed-kept p h _ _ (w .2 .ensures) (w .5 .ensures) (w .6 .ensures) (w .8 .taken)))
+    (λ w. rw (w .12, w .13, w .9 .ensures, w .8 .ensures) (passed-kept p h _ _ (w .2 .ensures) (sym (w .5 .ensures) ∙ w .6 .taken)))
     (⊎-elim
-    (λ w. rw (w .9, w .10) (passed-gone p h _ _ (w .2 .ensures) (w .5 .ensures) (w .6 .ensures) (w .8 .left)))
+    (λ w. rw (w .7, w .8) (passed-gone p h _ _ (w .2 .ensures) (sym (w .5 .ensures) ∙ w .6 .left)))
     (λ w. rw (w .1, w .2) (passed-same p (e .before .pre .0) z h _ _ (w .0 .left))))
     (c .if1 .came)
 
@@ -51,6 +50,6 @@ settle-spec =
     (tie.spec
     Inv-loop μ-loop loop-holds (λ c. search needs) (λ c. search needs) (λ c. search needs) (λ c. search needs)
     (λ c. search needs) (λ c κs. search needs) (λ c. search needs) (λ c. search needs) (λ c. search needs) (λ c. search needs)
-    (λ c κs. search needs) (λ c κs. search needs) (λ c. search needs) (λ c κs. search needs) (λ c. search needs) (λ c. search needs)
+    (λ c κs. search needs) (λ c. search needs) (λ c κs. search needs) (λ c κs. search needs) (λ c. search needs) (λ c. search needs)
     (λ c. search needs) (λ c. search needs) loop-again (λ c. search needs) (λ c. search needs) (λ c. search needs)
     (λ c κs. search needs) (λ c. search needs) returns)
