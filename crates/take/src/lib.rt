@@ -21,7 +21,7 @@ ghost use Rattle.take.specs.Answers.{Answers};
 ghost use Rattle.take.specs.Memory.{Sound, Memory};
 
 // Whether the numbers are in their ranges.
-fn in_range(q: TakeRequest) -> bool
+pub fn in_range(q: TakeRequest) -> bool
     ensures { λ r. ⌜ r ≡ requestInRange q ⌝ }
 {
     units::in_range(1, 2, q.side)
@@ -181,6 +181,18 @@ fn large(book: &mut [u8], executions: &mut [u8], n: usize, request: TakeRequest)
     )
 }
 
+// A take that is checked: its numbers are in range, and the book is sound and has n orders. It can only be refused for want of room for
+// its executions.
+pub fn take_checked(book: &mut [u8], executions: &mut [u8], n: usize, request: TakeRequest) -> Taken
+    requires { ⌜ Sound request (now book) n ⌝ }
+    ensures { λ r. ⌜ Answers request (now (book .entry)) (now (executions .entry)) r (now (book .exit)) (now (executions .exit)) ⌝ }
+{
+    if n <= 32 {
+        return small(book, executions, n, request);
+    }
+    large(book, executions, n, request)
+}
+
 // An incoming order takes shares from the orders of the book. Its executions go into the second buffer, from its start. The numbers may
 // have any value.
 pub fn take(book: &mut [u8], executions: &mut [u8], request: TakeRequest) -> Taken
@@ -198,9 +210,5 @@ pub fn take(book: &mut [u8], executions: &mut [u8], request: TakeRequest) -> Tak
     if refusal != 0 {
         return refused(refusal);
     }
-    let n = checked.orders as usize;
-    if n <= 32 {
-        return small(book, executions, n, request);
-    }
-    large(book, executions, n, request)
+    take_checked(book, executions, checked.orders as usize, request)
 }
