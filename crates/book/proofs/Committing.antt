@@ -1,17 +1,21 @@
 -- What a call that is decided first comes to: it is refused, writes one record, or takes one out; and what its caller gets.
 use Prim.Native.Nat.{ℕ, _+_, _≤_}
 use mathlib.Core.Path.{_≡_, refl, sym, _∙_}
-use mathlib.Core.Bool.{true}
-use mathlib.Core.List.{List}
+use mathlib.Core.Bool.{Bool, true, false, not}
+use mathlib.Core.List.{List, [], _∷_}
+use native.Mathlib.Omega.{arith}
 use lib.ListN.{length}
 use Rattle.orders.specs.declared.order.Order.{Order}
 use Rattle.record.specs.Codec.{replaced}
 use Rattle.record.specs.Record.{encodeOrder}
 use Rattle.record.proofs.Numbers.{AreBytes}
+use Rattle.book.specs.declared.Checked.{Checked}
 use Rattle.book.specs.Sound.{form, sound}
 use Rattle.book.specs.Change.{withoutRecord}
-use Rattle.book.specs.Refusal.{Changed, changedUnless}
+use Rattle.book.specs.Refusal.{Refusal, refuse, refusalOf, Changed, changedUnless}
+use Rattle.book.specs.Lookup.{checkCall}
 use Rattle.book.proofs.Refusing.{book-refused}
+use Rattle.book.proofs.Checking.{check-refused}
 
 module _ (call : Changed) (s : List ℕ) where
   -- it is refused with this number
@@ -35,6 +39,21 @@ module _ (call : Changed) (s : List ℕ) where
 -- a refused call changes no byte
 pub refuses : (r : ℕ) (before after : List ℕ) → (r ≡ 0 → ⊥) → Refuses (changedUnless r before after) before r
 refuses r before after h = record { refusal = refl; book = sym (book-refused r before after h); refused = h }
+
+-- The refusals that come before all others, of a call whose numbers are in range where this test says so.
+module _ (inRange : Bool) (ofBook : List Refusal) (s after : List ℕ) where
+  abbrev call : Changed
+  call = changedUnless (refusalOf (record { ofCall = refuse 1 (not inRange) ∷ []; ofBook = ofBook }) s) s after
+
+  -- refusal 1, a number out of its range
+  pub refuses-range : inRange ≡ false → Refuses call s 1
+  refuses-range e = rw e (refuses 1 s after (λ z. omega arith))
+
+  -- refusal 2, a book that check refuses
+  pub refuses-book : inRange ≡ true → (c : Checked) → c ≡ checkCall s → (c .refusal ≡ 0 → ⊥) → Refuses call s (c .refusal)
+  refuses-book e c k h =
+      let b = check-refused s c k h in
+      rw (e, b .0, b .1) (refuses 2 s after (λ z. omega arith))
 
 -- Where an accepted call leaves a sound book.
 module _ (call : Changed) (s : List ℕ) (keeps : call .refusal ≡ 0 → sound (call .book) ≡ true) where

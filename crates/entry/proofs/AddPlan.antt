@@ -17,9 +17,9 @@ use Rattle.book.specs.Lookup.{checkCall}
 use Rattle.book.specs.Refusal.{refusalOf, isAccepted}
 use Rattle.book.proofs.Soundness.{capacity-bytes}
 use Rattle.book.proofs.Refusing.{book-accepted}
-use Rattle.book.proofs.Checking.{orders-first, check-accepted, check-refused}
+use Rattle.book.proofs.Checking.{orders-first}
 use Rattle.book.proofs.Writing.{write-last}
-use Rattle.book.proofs.Committing.{Refuses, Writes, refuses}
+use Rattle.book.proofs.Committing.{Refuses, Writes, refuses, refuses-range, refuses-book}
 use Rattle.entry.specs.declared.admission.AddRequest.{AddRequest}
 use Rattle.entry.specs.declared.admission.Standing.{Standing}
 use Rattle.entry.specs.declared.admission.Admission.{Admission}
@@ -28,90 +28,79 @@ use Rattle.entry.specs.Add.{requestInRange, requested, setsPrice, couldT
 use Rattle.entry.specs.Plan.{standingOf, addPlan}
 use Rattle.entry.proofs.Adding.{add-accepted}
 
--- The plan, in the order in which its refusals are checked.
+-- An add that is refused before anything is decided: a number is out of its range, or check refuses the book.
+module _ (q : AddRequest) (s : List ℕ) where
+  pub add-range : requestInRange q ≡ false → Refuses (addCall q s) s 1
+  unfolding addCall
+  add-range = refuses-range (requestInRange q) (addRefusals q (capacityOf s) (ordersOf s) .ofBook) s (bookOf (capacityOf s) (added roundLot q (ordersOf s)))
+
+  pub add-unsound : requestInRange q ≡ true → (c : Checked) → c ≡ checkCall s → (c .refusal ≡ 0 → ⊥) → Refuses (addCall q s) s (c .refusal)
+  unfolding addCall
+  add-unsound = refuses-book (requestInRange q) (addRefusals q (capacityOf s) (ordersOf s) .ofBook) s (bookOf (capacityOf s) (added roundLot q (ordersOf s)))
+
+-- The plan of an add that is checked, in the order in which its refusals come.
 module _ (q : AddRequest) (s : List ℕ) where
   -- the new order, marked where it sets the price
   abbrev pub newOrder : Order
   newOrder = requested q (setsPrice roundLot (requested q false) (ordersOf s))
 
-  -- a number out of its range
-  pub add-range : requestInRange q ≡ false → Refused 1 ≡ addPlan q s
-  unfolding addPlan addCall
-  add-range e = rw e
-
-  module _ (e : requestInRange q ≡ true) where
-    -- a book that isn't sound
-    add-unsound : sound s ≡ false → addPlan q s ≡ Refused 2
+  module _ (e : requestInRange q ≡ true) (b : sound s ≡ true) where
+    -- a number that isn't above all others
+    add-stale : isStale (q .number) (ordersOf s) ≡ true → addPlan q s ≡ Refused 4
     unfolding addPlan addCall
-    add-unsound b = rw (e, b)
+    add-stale n = rw (e, b, n)
 
-    module _ (b : sound s ≡ true) where
-      -- a number that isn't above all others
-      add-stale : isStale (q .number) (ordersOf s) ≡ true → addPlan q s ≡ Refused 4
+    module _ (n : isStale (q .number) (ordersOf s) ≡ false) where
+      -- an order that could trade
+      add-trades : any (couldTrade (requested q false)) (ordersOf s) ≡ true → addPlan q s ≡ Refused 5
       unfolding addPlan addCall
-      add-stale n = rw (e, b, n)
+      add-trades t = rw (e, b, n, t)
 
-      module _ (n : isStale (q .number) (ordersOf s) ≡ false) where
-        -- an order that could trade
-        add-trades : any (couldTrade (requested q false)) (ordersOf s) ≡ true → addPlan q s ≡ Refused 5
+      module _ (t : any (couldTrade (requested q false)) (ordersOf s) ≡ false) where
+        -- no free record
+        add-full : capacityOf s ≤ length (ordersOf s) → addPlan q s ≡ Refused 6
         unfolding addPlan addCall
-        add-trades t = rw (e, b, n, t)
+        add-full h = rw (e, b, n, t, le-leb (capacityOf s) (length (ordersOf s)) h)
 
-        module _ (t : any (couldTrade (requested q false)) (ordersOf s) ≡ false) where
-          -- no free record
-          add-full : capacityOf s ≤ length (ordersOf s) → addPlan q s ≡ Refused 6
-          unfolding addPlan addCall
-          add-full h = rw (e, b, n, t, le-leb (capacityOf s) (length (ordersOf s)) h)
+        -- the order comes in, behind the others
+        add-admitted : length (ordersOf s) < capacityOf s → addPlan q s ≡ Admitted (32 * length (ordersOf s)) newOrder
+        unfolding addPlan addCall
+        add-admitted h = rw (e, b, n, t, lt-leb (capacityOf s) (length (ordersOf s)) h)
 
-          -- the order comes in, behind the others
-          add-admitted : length (ordersOf s) < capacityOf s → addPlan q s ≡ Admitted (32 * length (ordersOf s)) newOrder
-          unfolding addPlan addCall
-          add-admitted h = rw (e, b, n, t, lt-leb (capacityOf s) (length (ordersOf s)) h)
+-- The plan by what the code has computed: how the new order stands to the orders, of which the book has so many.
+module _ (q : AddRequest) (s : List ℕ) (e : requestInRange q ≡ true) (b : sound s ≡ true) (m : ℕ) (k : m ≡ length (ordersOf s))
+    (new : Order) (p : new ≡ requested q false) (st : Standing) (g : st ≡ standingOf new (firstOrders m s)) where
+  stands : st ≡ standingOf (requested q false) (ordersOf s)
+  stands = g ∙ rw (p, k, ← orders-first s)
 
--- The plan by what the code has computed: check's answer, and how the new order stands to the orders that check counts.
-module _ (q : AddRequest) (s : List ℕ) (e : requestInRange q ≡ true) (c : Checked) (k : c ≡ checkCall s) where
-  -- a book that check refuses
-  pub add-refused : (c .refusal ≡ 0 → ⊥) → Refused (c .refusal) ≡ addPlan q s
-  add-refused h =
-      let b = check-refused s c k h in
-      ap Refused (b .1) ∙ sym (add-unsound q s e (b .0))
+  stale : st .stale ≡ isStale (q .number) (ordersOf s)
+  unfolding requested
+  stale = ap (λ x. x .stale) stands
 
-  module _ (a : c .refusal ≡ 0) (new : Order) (p : new ≡ requested q false) (st : Standing)
-      (g : st ≡ standingOf new (firstOrders (c .orders) s)) where
-    counted : (sound s ≡ true) × (c .orders ≡ length (ordersOf s))
-    counted = check-accepted s c k a
+  trades : st .trades ≡ any (couldTrade (requested q false)) (ordersOf s)
+  trades = ap (λ x. x .trades) stands
 
-    stands : st ≡ standingOf (requested q false) (ordersOf s)
-    stands = g ∙ rw (p, counted .1, ← orders-first s)
+  -- its number isn't above all others
+  pub stale-refused : st .stale ≡ true → Refused 4 ≡ addPlan q s
+  stale-refused n = sym (add-stale q s e b (sym stale ∙ n))
 
-    stale : st .stale ≡ isStale (q .number) (ordersOf s)
-    unfolding requested
-    stale = ap (λ x. x .stale) stands
+  module _ (n : st .stale ≡ false) where
+    -- it could trade
+    pub trades-refused : st .trades ≡ true → Refused 5 ≡ addPlan q s
+    trades-refused t = sym (add-trades q s e b (sym stale ∙ n) (sym trades ∙ t))
 
-    trades : st .trades ≡ any (couldTrade (requested q false)) (ordersOf s)
-    trades = ap (λ x. x .trades) stands
+    module _ (t : st .trades ≡ false) where
+      -- there is no free record
+      pub full-refused : capacityOf s ≤ m → Refused 6 ≡ addPlan q s
+      full-refused h = sym (add-full q s e b (sym stale ∙ n) (sym trades ∙ t) (omega arith))
 
-    -- its number isn't above all others
-    pub stale-refused : st .stale ≡ true → Refused 4 ≡ addPlan q s
-    stale-refused n = sym (add-stale q s e (counted .0) (sym stale ∙ n))
-
-    module _ (n : st .stale ≡ false) where
-      -- it could trade
-      pub trades-refused : st .trades ≡ true → Refused 5 ≡ addPlan q s
-      trades-refused t = sym (add-trades q s e (counted .0) (sym stale ∙ n) (sym trades ∙ t))
-
-      module _ (t : st .trades ≡ false) where
-        -- there is no free record
-        pub full-refused : capacityOf s ≤ c .orders → Refused 6 ≡ addPlan q s
-        full-refused h = sym (add-full q s e (counted .0) (sym stale ∙ n) (sym trades ∙ t) (omega (arith, counted .1)))
-
-        -- it comes in
-        pub order-admitted : c .orders < capacityOf s → (o : Order)
-            → o ≡ requested q (isDisplayed (new .kind) && leb roundLot (interestOf new .displayed) && st .beats) → Admitted (32 * c .orders) o ≡ addPlan q s
-        unfolding setsPrice
-        order-admitted h o m =
-            let d = add-admitted q s e (counted .0) (sym stale ∙ n) (sym trades ∙ t) (omega (arith, counted .1)) in
-            rw (m, ap (λ x. x .beats) stands, p, counted .1) (sym d)
+      -- it comes in
+      pub order-admitted : m < capacityOf s → (o : Order)
+          → o ≡ requested q (isDisplayed (new .kind) && leb roundLot (interestOf new .displayed) && st .beats) → Admitted (32 * m) o ≡ addPlan q s
+      unfolding setsPrice
+      order-admitted h o i =
+          let d = add-admitted q s e b (sym stale ∙ n) (sym trades ∙ t) (omega arith) in
+          rw (i, ap (λ x. x .beats) stands, p, k) (sym d)
 
 -- A plan by its refusal number and the order that comes in.
 module _ (c place : ℕ) (new : Order) where

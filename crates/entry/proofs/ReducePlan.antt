@@ -8,7 +8,7 @@ use lib.ListN.{length, take, drop}
 use lib.Dec.{ltb}
 use borrow.Author.Tests.{lt-ltb, le-ltb, ne-eqb, eqb-true, eqb-false, not-false}
 use Rattle.units.specs.Lists.{any, filter, consIf}
-use Rattle.units.proofs.Tests.{and-true, true-and, false-and, and-false, or-false}
+use Rattle.units.proofs.Tests.{and-true, false-and, or-false}
 use Rattle.units.proofs.Members.{Every}
 use Rattle.orders.specs.declared.order.Order.{Order}
 use Rattle.orders.specs.Order.{interestOf, allShares, sizeOf, isResting, sharesInRange, numberInRange}
@@ -16,15 +16,16 @@ use Rattle.record.specs.Codec.{replaced}
 use Rattle.record.specs.Record.{encodeOrder, decodeOrder}
 use Rattle.record.proofs.Orders.{OrderSound, order-facts}
 use Rattle.book.specs.Sound.{form, sound, ordersOf, bookOf, capacityOf}
+use Rattle.book.specs.declared.Checked.{Checked}
 use Rattle.book.specs.declared.Found.{Found}
 use Rattle.book.specs.Change.{withoutRecord}
 use Rattle.book.specs.Refusal.{refuse, firstRefusal, refusalOf, isAccepted}
-use Rattle.book.specs.Lookup.{hasNumber, isUnknown, findCall, foundPart}
+use Rattle.book.specs.Lookup.{checkCall, hasNumber, isUnknown, findCall, foundPart}
 use Rattle.book.proofs.Soundness.{orders-sound}
 use Rattle.book.proofs.Refusing.{book-accepted}
 use Rattle.book.proofs.Placing.{Placed, any-placed, find-accepted, find-placed, find-start, find-inside, found-part, found}
 use Rattle.book.proofs.Writing.{write-at, remove-at}
-use Rattle.book.proofs.Committing.{Refuses, Writes, Removes, refuses}
+use Rattle.book.proofs.Committing.{Refuses, Writes, Removes, refuses, refuses-range, refuses-book}
 use Rattle.entry.specs.declared.reduction.Reduction.{Reduction}
 use Rattle.entry.specs.declared.reduction.Reduction.the-variants.{Refused, Kept, Gone}
 use Rattle.entry.specs.Reduce.{asksTooMuch, reduceRefusals, reducedIf, reduced, reduceCall}
@@ -67,60 +68,69 @@ module _ (n shares : ℕ) where
   asked : (o : Order) → hasNumber n o ≡ false → asksTooMuch n shares o ≡ false
   asked o e = false-and (ltb (allShares (interestOf o)) shares) e
 
--- reduce is refused as find is, where the shares are in range
-as-find : (a c b u t : Bool) → c ≡ true → (firstRefusal (refuse 1 (not a) ∷ refuse 2 (not b) ∷ refuse 3 u ∷ []) ≡ 0 → ⊥)
+-- reduce is refused as find is, where the numbers are in range
+as-find : (a c b u t : Bool) → (a && c) ≡ true → (firstRefusal (refuse 1 (not a) ∷ refuse 2 (not b) ∷ refuse 3 u ∷ []) ≡ 0 → ⊥)
     → firstRefusal (refuse 1 (not (a && c)) ∷ refuse 2 (not b) ∷ refuse 3 u ∷ refuse 7 t ∷ [])
     ≡ firstRefusal (refuse 1 (not a) ∷ refuse 2 (not b) ∷ refuse 3 u ∷ [])
-as-find a false b u t e h = absurd (false≢true e)
-as-find false true b u t e h = refl
+as-find false c b u t e h = absurd (false≢true e)
+as-find true false b u t e h = absurd (false≢true e)
 as-find true true false u t e h = refl
 as-find true true true true t e h = refl
 as-find true true true false t e h = absurd (h refl)
 
--- The plan, in the order in which its refusals are checked.
+-- A reduce that is refused before anything is decided: a number is out of its range, or check refuses the book.
 module _ (n shares : ℕ) (s : List ℕ) where
-  -- a number of shares out of its range
-  pub reduce-shares : sharesInRange shares ≡ false → Refused 1 ≡ reducePlan n shares s
-  unfolding reducePlan reduceCall
-  reduce-shares h = rw (and-false (numberInRange n) h)
+  pub reduce-range : (numberInRange n && sharesInRange shares) ≡ false → Refuses (reduceCall n shares s) s 1
+  unfolding reduceCall
+  reduce-range =
+      refuses-range (numberInRange n && sharesInRange shares) (reduceRefusals n shares (ordersOf s) .ofBook) s
+      (bookOf (capacityOf s) (reduced n shares (ordersOf s)))
 
-  module _ (h : sharesInRange shares ≡ true) where
-    not-found : (findCall n s .refusal ≡ 0 → ⊥) → reduceCall n shares s .refusal ≡ findCall n s .refusal
-    unfolding reduceCall findCall
-    not-found f =
-        let os = ordersOf s in
-        as-find (numberInRange n) (sharesInRange shares) (sound s) (isUnknown n os) (any (asksTooMuch n shares) os) h f
+  pub reduce-unsound : (numberInRange n && sharesInRange shares) ≡ true → (c : Checked) → c ≡ checkCall s → (c .refusal ≡ 0 → ⊥)
+      → Refuses (reduceCall n shares s) s (c .refusal)
+  unfolding reduceCall
+  reduce-unsound =
+      refuses-book (numberInRange n && sharesInRange shares) (reduceRefusals n shares (ordersOf s) .ofBook) s
+      (bookOf (capacityOf s) (reduced n shares (ordersOf s)))
 
-    -- a find that is refused
-    reduce-not-found : (findCall n s .refusal ≡ 0 → ⊥) → reducePlan n shares s ≡ Refused (findCall n s .refusal)
+-- The plan of a reduce whose numbers are in range, in the order in which its refusals come.
+module _ (n shares : ℕ) (s : List ℕ) (h : (numberInRange n && sharesInRange shares) ≡ true) where
+  not-found : (findCall n s .refusal ≡ 0 → ⊥) → reduceCall n shares s .refusal ≡ findCall n s .refusal
+  unfolding reduceCall findCall
+  not-found f =
+      let os = ordersOf s in
+      as-find (numberInRange n) (sharesInRange shares) (sound s) (isUnknown n os) (any (asksTooMuch n shares) os) h f
+
+  -- a find that is refused
+  reduce-not-found : (findCall n s .refusal ≡ 0 → ⊥) → reducePlan n shares s ≡ Refused (findCall n s .refusal)
+  unfolding reducePlan
+  reduce-not-found f = rw (not-found f, ne-eqb (findCall n s .refusal) 0 f)
+
+  module _ (e : findCall n s .refusal ≡ 0) (o : Order) (its : o ≡ decodeOrder form (take 32 (drop (findCall n s .start) s))) where
+    same-found : decodeOrder form (foundPart (findCall n s) s) ≡ o
+    same-found = ap (decodeOrder form) (found-part n s e) ∙ sym its
+
+    refusal : reduceCall n shares s .refusal ≡ cond (ltb (allShares (interestOf o)) shares) 7 0
+    unfolding reduceCall
+    refusal =
+        let a = find-accepted n s e in
+        let p = find-placed n s e in
+        let same = sym same-found ∙ found n s e in
+        let t = any-placed n (asksTooMuch n shares) (asked n shares) (ordersOf s) p in
+        rw (h, a .book, a .ofBook .0, t, p .named, same)
+
+    -- more shares than the order has
+    reduce-too-much : allShares (interestOf o) < shares → reducePlan n shares s ≡ Refused 7
     unfolding reducePlan
-    reduce-not-found f = rw (not-found f, ne-eqb (findCall n s .refusal) 0 f)
+    reduce-too-much l = rw (refusal, lt-ltb (allShares (interestOf o)) shares l)
 
-    module _ (e : findCall n s .refusal ≡ 0) (o : Order) (its : o ≡ decodeOrder form (take 32 (drop (findCall n s .start) s))) where
-      same-found : decodeOrder form (foundPart (findCall n s) s) ≡ o
-      same-found = ap (decodeOrder form) (found-part n s e) ∙ sym its
-
-      refusal : reduceCall n shares s .refusal ≡ cond (ltb (allShares (interestOf o)) shares) 7 0
-      unfolding reduceCall
-      refusal =
-          let a = find-accepted n s e in
-          let p = find-placed n s e in
-          let same = sym same-found ∙ found n s e in
-          let t = any-placed n (asksTooMuch n shares) (asked n shares) (ordersOf s) p in
-          rw (true-and (not-false (numberInRange n) (a .ofCall .0)) h, a .book, a .ofBook .0, t, p .named, same)
-
-      -- more shares than the order has
-      reduce-too-much : allShares (interestOf o) < shares → reducePlan n shares s ≡ Refused 7
-      unfolding reducePlan
-      reduce-too-much l = rw (refusal, lt-ltb (allShares (interestOf o)) shares l)
-
-      -- the order stays or leaves
-      reduce-done : shares ≤ allShares (interestOf o) → reducePlan n shares s ≡ outcomeOf (findCall n s .start) (reducedOrder shares o)
-      unfolding reducePlan
-      reduce-done l = rw (refusal, le-ltb (allShares (interestOf o)) shares l, same-found)
+    -- the order stays or leaves
+    reduce-done : shares ≤ allShares (interestOf o) → reducePlan n shares s ≡ outcomeOf (findCall n s .start) (reducedOrder shares o)
+    unfolding reducePlan
+    reduce-done l = rw (refusal, le-ltb (allShares (interestOf o)) shares l, same-found)
 
 -- The plan by what the code has computed: find's answer, the order that is read there, and that order reduced.
-module _ (n shares : ℕ) (s : List ℕ) (h : sharesInRange shares ≡ true) (f : Found) (q : f ≡ findCall n s) where
+module _ (n shares : ℕ) (s : List ℕ) (h : (numberInRange n && sharesInRange shares) ≡ true) (f : Found) (q : f ≡ findCall n s) where
   -- a find that is refused
   pub find-refused : (f .refusal ≡ 0 → ⊥) → Refused (f .refusal) ≡ reducePlan n shares s
   find-refused e = ap (λ x. Refused (x .refusal)) q ∙ sym (reduce-not-found n shares s h (λ z. e (ap (λ x. x .refusal) q ∙ z)))

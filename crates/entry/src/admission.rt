@@ -9,9 +9,10 @@ use orders::trading;
 use units::Price;
 use units::Shares;
 ghost use mathlib.Core.Path.{_≡_};
+ghost use mathlib.Core.Bool.{true};
 ghost use Prim.Native.Nat.{_*_, _≤_};
 ghost use lib.ListN.{length};
-ghost use Rattle.book.specs.Sound.{firstOrders};
+ghost use Rattle.book.specs.Sound.{sound, ordersOf, firstOrders};
 ghost use Rattle.entry.specs.Add.{requestInRange, requested, beats, couldTrade};
 ghost use Rattle.entry.specs.Plan.{standingOf, addPlan};
 
@@ -41,7 +42,7 @@ pub struct Standing {
 }
 
 // Whether the numbers are in their ranges.
-fn in_range(q: AddRequest) -> bool
+pub fn in_range(q: AddRequest) -> bool
     ensures { λ r. ⌜ r ≡ requestInRange q ⌝ }
 {
     units::in_range(1, 2, q.side)
@@ -113,19 +114,12 @@ fn standing_in(book: &[u8], n: usize, new: Order) -> Standing
     }
 }
 
-// The refusal of an add, or the order to be put last and where.
-pub fn decide(book: &[u8], request: AddRequest) -> Admission
+// The refusal of an add that is checked, or the order to be put last and where. Checked: the numbers are in range, and the book is sound and
+// has n orders.
+pub fn decide(book: &[u8], n: usize, request: AddRequest) -> Admission
+    requires { ⌜ (requestInRange request ≡ true) × (sound (now book) ≡ true) × (n ≡ length (ordersOf (now book))) ⌝ }
     ensures { λ r. ⌜ r ≡ addPlan request (now (book .entry)) ⌝ }
 {
-    if !in_range(request) {
-        return Admission::Refused(1);
-    }
-    let checked = lookup::check(book);
-    let refusal = checked.refusal;
-    if refusal != 0 {
-        return Admission::Refused(refusal);
-    }
-    let n = checked.orders as usize;
     let new = requested(request, false);
     let found = standing_in(book, n, new);
     let stale = found.stale;

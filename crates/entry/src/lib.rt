@@ -7,18 +7,21 @@ use admission::Admission;
 use book::records;
 use reduction::Reduction;
 ghost use mathlib.Core.Path.{_≡_};
-ghost use mathlib.Core.Bool.{true};
-ghost use Rattle.book.specs.Sound.{sound};
-ghost use Rattle.entry.specs.Add.{addCall};
+ghost use mathlib.Core.Bool.{true, _&&_};
+ghost use lib.ListN.{length};
+ghost use Rattle.orders.specs.Order.{numberInRange, sharesInRange};
+ghost use Rattle.book.specs.Sound.{sound, ordersOf};
+ghost use Rattle.entry.specs.Add.{requestInRange, addCall};
 ghost use Rattle.entry.specs.Reduce.{reduceCall};
 
-// An order is put last in the book. The numbers may have any value.
-pub fn add(book: &mut [u8], request: AddRequest) -> u32
+// An add that is checked: its numbers are in range, and the book is sound and has n orders.
+pub fn add_checked(book: &mut [u8], n: usize, request: AddRequest) -> u32
+    requires { ⌜ (requestInRange request ≡ true) × (sound (now book) ≡ true) × (n ≡ length (ordersOf (now book))) ⌝ }
     ensures refused { λ r. ⌜ r ≡ addCall request (now (book .entry)) .refusal ⌝ }
     ensures bytes { λ r. ⌜ now (book .exit) ≡ addCall request (now (book .entry)) .book ⌝ }
     ensures kept_sound { λ r. ⌜ (r ≡ 0 → sound (now (book .exit)) ≡ true) ⌝ }
 {
-    match admission::decide(book, request) {
+    match admission::decide(book, n, request) {
         Admission::Refused(refusal) => refusal,
         Admission::Admitted(start, order) => {
             records::write_order(book, start, order);
@@ -27,13 +30,31 @@ pub fn add(book: &mut [u8], request: AddRequest) -> u32
     }
 }
 
-// The order of this number loses shares; without any it leaves the book.
-pub fn reduce(book: &mut [u8], number: u32, shares: u32) -> u32
+// An order is put last in the book. The numbers may have any value.
+pub fn add(book: &mut [u8], request: AddRequest) -> u32
+    ensures refused { λ r. ⌜ r ≡ addCall request (now (book .entry)) .refusal ⌝ }
+    ensures bytes { λ r. ⌜ now (book .exit) ≡ addCall request (now (book .entry)) .book ⌝ }
+    ensures kept_sound { λ r. ⌜ (r ≡ 0 → sound (now (book .exit)) ≡ true) ⌝ }
+{
+    if !admission::in_range(request) {
+        return 1;
+    }
+    let checked = lookup::check(book);
+    let refusal = checked.refusal;
+    if refusal != 0 {
+        return refusal;
+    }
+    add_checked(book, checked.orders as usize, request)
+}
+
+// A reduce that is checked: its numbers are in range, and the book is sound and has n orders.
+pub fn reduce_checked(book: &mut [u8], n: usize, number: u32, shares: u32) -> u32
+    requires { ⌜ ((numberInRange number && sharesInRange shares) ≡ true) × (sound (now book) ≡ true) × (n ≡ length (ordersOf (now book))) ⌝ }
     ensures refused { λ r. ⌜ r ≡ reduceCall number shares (now (book .entry)) .refusal ⌝ }
     ensures bytes { λ r. ⌜ now (book .exit) ≡ reduceCall number shares (now (book .entry)) .book ⌝ }
     ensures kept_sound { λ r. ⌜ (r ≡ 0 → sound (now (book .exit)) ≡ true) ⌝ }
 {
-    match reduction::decide(book, number, shares) {
+    match reduction::decide(book, n, number, shares) {
         Reduction::Refused(refusal) => refusal,
         Reduction::Kept(start, order) => {
             records::write_order(book, start, order);
@@ -44,4 +65,21 @@ pub fn reduce(book: &mut [u8], number: u32, shares: u32) -> u32
             0
         }
     }
+}
+
+// The order of this number loses shares; without any it leaves the book. The numbers may have any value.
+pub fn reduce(book: &mut [u8], number: u32, shares: u32) -> u32
+    ensures refused { λ r. ⌜ r ≡ reduceCall number shares (now (book .entry)) .refusal ⌝ }
+    ensures bytes { λ r. ⌜ now (book .exit) ≡ reduceCall number shares (now (book .entry)) .book ⌝ }
+    ensures kept_sound { λ r. ⌜ (r ≡ 0 → sound (now (book .exit)) ≡ true) ⌝ }
+{
+    if !reduction::in_range(number, shares) {
+        return 1;
+    }
+    let checked = lookup::check(book);
+    let refusal = checked.refusal;
+    if refusal != 0 {
+        return refusal;
+    }
+    reduce_checked(book, checked.orders as usize, number, shares)
 }

@@ -4,7 +4,10 @@ use orders::order::Order;
 use orders::range;
 use units::Shares;
 ghost use mathlib.Core.Path.{_≡_};
-ghost use Rattle.orders.specs.Order.{interestOf, settled};
+ghost use mathlib.Core.Bool.{true, _&&_};
+ghost use lib.ListN.{length};
+ghost use Rattle.orders.specs.Order.{interestOf, settled, numberInRange, sharesInRange};
+ghost use Rattle.book.specs.Sound.{sound, ordersOf};
 ghost use Rattle.entry.specs.Reduce.{reduction};
 ghost use Rattle.entry.specs.Plan.{outcomeOf, reducePlan};
 
@@ -13,6 +16,13 @@ pub enum Reduction {
     Refused(u32),
     Kept(usize, Order),
     Gone(usize),
+}
+
+// Whether the numbers are in their ranges.
+pub fn in_range(number: u32, shares: u32) -> bool
+    ensures { λ r. ⌜ r ≡ (numberInRange number && sharesInRange shares) ⌝ }
+{
+    range::number_in_range(number) & range::shares_in_range(shares)
 }
 
 // The order without the shares.
@@ -36,14 +46,13 @@ fn outcome(start: usize, left: Order) -> Reduction
     }
 }
 
-// The refusal of a reduce, or what becomes of the order of this number.
-pub fn decide(book: &[u8], number: u32, shares: u32) -> Reduction
+// The refusal of a reduce that is checked, or what becomes of the order of this number. Checked: the numbers are in range, and the book is
+// sound and has n orders.
+pub fn decide(book: &[u8], n: usize, number: u32, shares: u32) -> Reduction
+    requires { ⌜ ((numberInRange number && sharesInRange shares) ≡ true) × (sound (now book) ≡ true) × (n ≡ length (ordersOf (now book))) ⌝ }
     ensures { λ r. ⌜ r ≡ reducePlan number shares (now (book .entry)) ⌝ }
 {
-    if !range::shares_in_range(shares) {
-        return Reduction::Refused(1);
-    }
-    let found = lookup::locate(book, number);
+    let found = lookup::locate_checked(book, n, number);
     let refusal = found.refusal;
     if refusal != 0 {
         return Reduction::Refused(refusal);

@@ -8,9 +8,12 @@ use book::Found;
 use book::records::RECORD_BYTES;
 use orders::range;
 ghost use mathlib.Core.Path.{_≡_};
+ghost use mathlib.Core.Bool.{true};
 ghost use Prim.Native.Nat.{_+_, _≤_};
 ghost use denote.Ref.{ptr};
 ghost use lib.ListN.{length};
+ghost use Rattle.orders.specs.Order.{numberInRange};
+ghost use Rattle.book.specs.Sound.{sound, ordersOf};
 ghost use Rattle.book.specs.Lookup.{checkCall, findCall, foundPart};
 
 // Whether the book is sound, and how many orders it has.
@@ -48,7 +51,25 @@ fn not_found(refusal: u32) -> Found
     }
 }
 
-// Where the record of the order of this number lies.
+// Where the record of the order of this number lies, for a find that is checked: its number is in range, and the book is sound and has n
+// orders.
+pub fn locate_checked(book: &[u8], n: usize, number: u32) -> Found
+    requires { ⌜ (numberInRange number ≡ true) × (sound (now book) ≡ true) × (n ≡ length (ordersOf (now book))) ⌝ }
+    ensures answer { λ r. ⌜ r ≡ findCall number (now (book .entry)) ⌝ }
+    ensures within { λ r. ⌜ r .start + r .length ≤ length (now (book .entry)) ⌝ }
+{
+    let place = place::place_of(book, n, number);
+    if place == n {
+        return not_found(3);
+    }
+    Found {
+        refusal: 0,
+        start: RECORD_BYTES * place,
+        length: RECORD_BYTES,
+    }
+}
+
+// Where the record of the order of this number lies. The number may have any value.
 pub fn locate(book: &[u8], number: u32) -> Found
     ensures answer { λ r. ⌜ r ≡ findCall number (now (book .entry)) ⌝ }
     ensures within { λ r. ⌜ r .start + r .length ≤ length (now (book .entry)) ⌝ }
@@ -61,16 +82,7 @@ pub fn locate(book: &[u8], number: u32) -> Found
     if refusal != 0 {
         return not_found(refusal);
     }
-    let n = checked.orders as usize;
-    let place = place::place_of(book, n, number);
-    if place == n {
-        return not_found(3);
-    }
-    Found {
-        refusal: 0,
-        start: RECORD_BYTES * place,
-        length: RECORD_BYTES,
-    }
+    locate_checked(book, checked.orders as usize, number)
 }
 
 // The order's own 32 bytes of the lent book, not a copy; empty where it is refused.

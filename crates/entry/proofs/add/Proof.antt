@@ -1,45 +1,44 @@
--- `entry::add` meets its contract: what was decided is what the call comes to.
+-- `entry::add` meets its contract: it is refused before anything is decided, or answers as one that is checked.
 use mathlib.Core.Path.{sym, _∙_}
-use native.Mathlib.Omega.{arith}
 use borrow.Author.Needs.{needs}
-use Rattle.record.proofs.Numbers.{are-bytes}
-use Rattle.book.proofs.Committing.{refusal-answer, written-answer}
+use borrow.Author.Tests.{not-true, not-false}
+use Rattle.book.proofs.Checking.{check-accepted}
+use Rattle.book.proofs.Committing.{refusal-answer}
 use Rattle.entry.specs.Add.{addCall}
 use Rattle.entry.proofs.Adding.{add-sound}
-use Rattle.entry.proofs.AddPlan.{plan-refused, plan-admitted}
+use Rattle.entry.proofs.AddPlan.{add-range, add-unsound}
 use Rattle.entry.proofs.add.Statement.{statement}
 use Rattle.entry.proofs.add.Tie as tie
 
-write-order-requires : tie.Need-write-order-requires
-write-order-requires c κs =
-    let m = c .before .before in
-    let d = m .before .before in
-    plan-admitted _ (d .before .before .before .args .book .now) _ _ (sym (m .start .given .1) ∙ d .decide .ensures) .inside
-
 returns : tie.Need-returns
 returns c =
-    let m = c .before in
-    let d = m .before .before in
-    let a = d .before .before .before .args in
+    let t = c .before in
+    let a = t .before .before .args in
     let s = a .book .now in
     let q = a .request in
-    refusal-answer (addCall q s) s (add-sound q s) _ (plan-refused q s _ (sym (m .refusal .given .1) ∙ d .decide .ensures))
+    refusal-answer (addCall q s) s (add-sound q s) _ (add-range q s (sym (t .in-range .ensures) ∙ not-true _ (c .if1 .taken)))
 
 returns-2 : tie.Need-returns-2
 returns-2 c =
-    let w = c .before .before in
-    let m = w .before .before .before in
-    let d = m .before .before in
-    let e = d .before .before in
-    let a = e .before .args in
+    let k = c .before in
+    let t = k .before .before .before in
+    let a = t .before .before .args in
     let s = a .book .now in
     let q = a .request in
-    written-answer (addCall q s) s (add-sound q s) (are-bytes s (λ k. omega (arith, e .slice-known .given k))) _ _ _
-    (plan-admitted q s _ _ (sym (m .start .given .1) ∙ d .decide .ensures)) (w .write-order .ensures)
+    let e = sym (t .in-range .ensures) ∙ not-false _ (k .before .before .if1 .left) in
+    refusal-answer (addCall q s) s (add-sound q s) _ (add-unsound q s e _ (k .check .ensures) (c .if2 .taken))
+
+add-checked-requires : tie.Need-add-checked-requires
+add-checked-requires c κs =
+    let d = c .before .before in
+    let k = d .before in
+    let t = k .before .before .before in
+    let b = check-accepted (t .before .before .args .book .now) _ (k .check .ensures) (d .if2 .left) in
+    (sym (t .in-range .ensures) ∙ not-false _ (k .before .before .if1 .left), b .0, b .1)
 
 pub add-spec : {M : Type 1} → statement M
 add-spec =
     tie.close
     (tie.spec
-    (λ c κs. search needs) (λ c. search needs) (λ c. search needs) write-order-requires (λ c. search needs) returns
-    (λ c. search needs) returns-2)
+    (λ c κs. search needs) returns (λ c κs. search needs) (λ c. search needs) returns-2 (λ c. search needs) add-checked-requires
+    (λ c. search needs) (λ c. search needs))

@@ -1,65 +1,44 @@
--- `entry::reduce` meets its contract: what was decided is what the call comes to.
+-- `entry::reduce` meets its contract: it is refused before anything is decided, or answers as one that is checked.
 use mathlib.Core.Path.{sym, _∙_}
-use native.Mathlib.Omega.{arith}
 use borrow.Author.Needs.{needs}
-use Rattle.record.proofs.Numbers.{are-bytes}
-use Rattle.book.proofs.Committing.{refusal-answer, written-answer, removed-answer}
+use borrow.Author.Tests.{not-true, not-false}
+use Rattle.book.proofs.Checking.{check-accepted}
+use Rattle.book.proofs.Committing.{refusal-answer}
 use Rattle.entry.specs.Reduce.{reduceCall}
 use Rattle.entry.proofs.Reducing.{reduce-sound}
-use Rattle.entry.proofs.ReducePlan.{plan-refused, plan-kept, plan-gone}
+use Rattle.entry.proofs.ReducePlan.{reduce-range, reduce-unsound}
 use Rattle.entry.proofs.reduce.Statement.{statement}
 use Rattle.entry.proofs.reduce.Tie as tie
 
-write-order-requires : tie.Need-write-order-requires
-write-order-requires c κs =
-    let m = c .before .before in
-    let d = m .before .before in
-    let a = d .before .before .before .args in
-    plan-kept (a .number) (a .shares) (a .book .now) _ _ (sym (m .start .given .1) ∙ d .decide .ensures) .inside
-
-remove-requires : tie.Need-remove-requires
-remove-requires c κs =
-    let m = c .before .before in
-    let d = m .before .before in
-    let a = d .before .before .before .args in
-    plan-gone (a .number) (a .shares) (a .book .now) _ (sym (m .start2 .given .1) ∙ d .decide .ensures) .inside
-
 returns : tie.Need-returns
 returns c =
-    let m = c .before in
-    let d = m .before .before in
-    let a = d .before .before .before .args in
+    let t = c .before in
+    let a = t .before .before .args in
     let s = a .book .now in
     refusal-answer (reduceCall (a .number) (a .shares) s) s (reduce-sound (a .number) (a .shares) s) _
-    (plan-refused (a .number) (a .shares) s _ (sym (m .refusal .given .1) ∙ d .decide .ensures))
+    (reduce-range (a .number) (a .shares) s (sym (t .in-range .ensures) ∙ not-true _ (c .if1 .taken)))
 
 returns-2 : tie.Need-returns-2
 returns-2 c =
-    let w = c .before .before in
-    let m = w .before .before .before in
-    let d = m .before .before in
-    let e = d .before .before in
-    let a = e .before .args in
+    let k = c .before in
+    let t = k .before .before .before in
+    let a = t .before .before .args in
     let s = a .book .now in
-    written-answer (reduceCall (a .number) (a .shares) s) s (reduce-sound (a .number) (a .shares) s)
-    (are-bytes s (λ k. omega (arith, e .slice-known .given k))) _ _ _
-    (plan-kept (a .number) (a .shares) s _ _ (sym (m .start .given .1) ∙ d .decide .ensures)) (w .write-order .ensures)
+    let e = sym (t .in-range .ensures) ∙ not-false _ (k .before .before .if1 .left) in
+    refusal-answer (reduceCall (a .number) (a .shares) s) s (reduce-sound (a .number) (a .shares) s) _
+    (reduce-unsound (a .number) (a .shares) s e _ (k .check .ensures) (c .if2 .taken))
 
-returns-3 : tie.Need-returns-3
-returns-3 c =
-    let w = c .before .before in
-    let m = w .before .before .before in
-    let d = m .before .before in
-    let e = d .before .before in
-    let a = e .before .args in
-    let s = a .book .now in
-    removed-answer (reduceCall (a .number) (a .shares) s) s (reduce-sound (a .number) (a .shares) s)
-    (are-bytes s (λ k. omega (arith, e .slice-known .given k))) _ _
-    (plan-gone (a .number) (a .shares) s _ (sym (m .start2 .given .1) ∙ d .decide .ensures)) (w .remove .ensures)
+reduce-checked-requires : tie.Need-reduce-checked-requires
+reduce-checked-requires c κs =
+    let d = c .before .before in
+    let k = d .before in
+    let t = k .before .before .before in
+    let b = check-accepted (t .before .before .args .book .now) _ (k .check .ensures) (d .if2 .left) in
+    (sym (t .in-range .ensures) ∙ not-false _ (k .before .before .if1 .left), b .0, b .1)
 
 pub reduce-spec : {M : Type 1} → statement M
 reduce-spec =
     tie.close
     (tie.spec
-    (λ c κs. search needs) (λ c. search needs) (λ c. search needs) write-order-requires (λ c. search needs) remove-requires
-    (λ c. search needs) returns (λ c. search needs) returns-2 (λ c. search needs) returns-3)
+    (λ c κs. search needs) returns (λ c κs. search needs) (λ c. search needs) returns-2 (λ c. search needs) reduce-checked-requires
+    (λ c. search needs) (λ c. search needs))
