@@ -1,5 +1,6 @@
 /* Ruhvasto: a book of resting orders in a buffer that the caller lends, and an incoming order that is shared among them under PSX
- * Rule 3307 (SR-Phlx-2014-24), by price/time, pro rata, or pro rata with the price-setter variation.
+ * Rule 3307 (SR-Phlx-2014-24), by price/time, pro rata, or pro rata with the price-setter variation; and beside a book, for those who
+ * want it, a ladder: what its orders come to at each price.
  *
  * For x86-64 Linux: C's calling convention there (System V), no instruction beyond those that every x86-64 processor has. The code is
  * position independent. It is linked by -lruhvasto, and needs memmove and memset of the C library and nothing else.
@@ -7,17 +8,19 @@
  * WHAT THE CALLER OWES. Every number may have any value: one that is out of its range is refused. One duty is left, and nothing checks it:
  *   - each pointer is to as many bytes as the length behind it says, to be read and, where the pointer isn't const, written;
  *   - no pointer is NULL, not even to a buffer of no bytes, of which nothing is read or written;
- *   - the two buffers of take don't overlap;
+ *   - the buffers of a call don't overlap;
  *   - nobody else writes to a buffer during a call, nor reads one that the call may write.
  * A buffer may lie at any address, however aligned.
  *
  * WHAT THE CALLER GETS. Every call ends. Nothing is allocated, and nothing is kept between calls: calls on buffers of their own may run in
- * any number of threads at once. Take uses less than RUHVASTO_TAKE_STACK_BYTES of stack and every other call less than
- * RUHVASTO_STACK_BYTES, beside what those two functions of the C library use. It is proved of the source that what a call returns and
- * every byte that it leaves in each buffer is what the definitions of the rule say, refused or not; the compiler is trusted.
+ * any number of threads at once. A call that is lent a ladder uses less than RUHVASTO_LADDER_STACK_BYTES of stack, take less than
+ * RUHVASTO_TAKE_STACK_BYTES and every other call less than RUHVASTO_STACK_BYTES, beside what those two functions of the C library use. It
+ * is proved of the source that what a call returns and every byte that it leaves in each buffer is what the definitions of the rule say,
+ * refused or not; the compiler is trusted.
  *
  * A REFUSED CALL returns its refusal number, 0 in every other number that it returns, and changes no byte of any buffer. The refusals are
- * checked in the order of their numbers, and the first that holds is returned. An accepted call returns 0 as its refusal number.
+ * checked in the order in which they are listed below, which isn't that of their numbers, and the first that holds is returned. An accepted
+ * call returns 0 as its refusal number.
  *
  * Prices are in ten-thousandths of a dollar: 100000 is 10 dollars. Sizes are in shares, and a round lot has 100 of them. */
 #ifndef RUHVASTO_H
@@ -44,12 +47,13 @@ extern "C" {
 #endif
 
 /* The version of this interface. It rises with every change that a caller can notice. */
-#define RUHVASTO_VERSION 3
+#define RUHVASTO_VERSION 4
 
 /* The last change request that the library has; 0 is the base, without any. */
-#define RUHVASTO_REQUESTS 1
+#define RUHVASTO_REQUESTS 2
 
-/* Bytes of stack that are enough for take, and for every other call. */
+/* Bytes of stack that are enough for a call that is lent a ladder, for take, and for every other call. */
+#define RUHVASTO_LADDER_STACK_BYTES 16000
 #define RUHVASTO_TAKE_STACK_BYTES 16000
 #define RUHVASTO_STACK_BYTES 3000
 
@@ -100,6 +104,32 @@ extern "C" {
 #define RUHVASTO_EXECUTION_BYTES 16
 #define RUHVASTO_EXECUTIONS_BYTES 4096
 
+/* THE LADDER of a book is a buffer of 6,144 bytes, 256 rows of 24 bytes, with the same order of bytes in a number. Each side and price that
+ * an order has is one row. Sells come first with rising price, then buys with falling price; every byte behind the last row is zero.
+ *
+ *   byte 0, 1     the mark 4C 44 hex
+ *   byte 2        the side
+ *   byte 3        zero
+ *   byte 4 to 7   the price
+ *   byte 8 to 11  the displayed shares: those of displayed orders
+ *   byte 12 to 15 the other shares: those of non-displayed and of minimum quantity orders
+ *   byte 16, 17   the number of orders, of whatever kind, 1 to 256
+ *   byte 18 to 23 zero
+ *
+ * There are never more rows than orders, so 256 are always enough. They end before the first whose first byte is zero, or else with the
+ * 256th:
+ *
+ *     for (size_t i = 0; i < RUHVASTO_LADDER_ROWS && ladder[i * RUHVASTO_ROW_BYTES] != 0; i++)
+ *         .. ruhvasto_row_at(ladder + i * RUHVASTO_ROW_BYTES) ..
+ *
+ * ruhvasto_ladder makes the ladder of a book. That of an empty book is all zeros, so a new book and its ladder are two buffers of zeros.
+ * ruhvasto_add_ladder, ruhvasto_reduce_ladder and ruhvasto_take_ladder change the book as the plain calls do, and its ladder with it. Each
+ * checks first that the ladder is the book's, to the last byte; so a ladder may be stored, sent and lent again, as a book may. The plain
+ * calls know of no ladder: where one of them has changed the book, ruhvasto_ladder makes its ladder again. */
+#define RUHVASTO_ROW_BYTES 24
+#define RUHVASTO_LADDER_ROWS 256
+#define RUHVASTO_LADDER_BYTES 6144
+
 #define RUHVASTO_PRICE_MOST 2000000000
 #define RUHVASTO_SIZE_MOST 999999
 #define RUHVASTO_ROUND_LOT 100
@@ -113,11 +143,13 @@ enum { RUHVASTO_DISPLAYED = 1, RUHVASTO_NON_DISPLAYED = 2, RUHVASTO_MINIMUM_QUAN
 /* Algorithms of take. */
 enum { RUHVASTO_PRICE_TIME = 1, RUHVASTO_PRO_RATA = 2, RUHVASTO_PRO_RATA_SETTER = 3 };
 
-/* Refusal numbers. */
+/* Refusal numbers, in the order in which they are checked. What is said of add, reduce and take holds of their forms with a ladder too. */
 enum {
     RUHVASTO_ACCEPTED = 0,
     RUHVASTO_OUT_OF_RANGE = 1,    /* a number given in the call is outside its range, a minimum by the kind and the size included */
     RUHVASTO_UNSOUND_BOOK = 2,    /* the book isn't sound, its length included */
+    RUHVASTO_LADDER_LENGTH = 9,   /* calls with a ladder: its length isn't 6,144 bytes */
+    RUHVASTO_OTHER_LADDER = 10,   /* calls that keep a ladder: some byte of it isn't what ruhvasto_ladder would write for the book */
     RUHVASTO_UNKNOWN_NUMBER = 3,  /* find, reduce: no order has the number */
     RUHVASTO_STALE_NUMBER = 4,    /* add: the number isn't above every number in the book */
     RUHVASTO_COULD_TRADE = 5,     /* add: on the other side an order within the price is displayed or non-displayed, or is a minimum
@@ -210,6 +242,33 @@ uint32_t ruhvasto_reduce(uint8_t *book, size_t book_len, uint32_t number, uint32
 RUHVASTO_USE_ANSWER RUHVASTO_NO_NULL
 ruhvasto_taken ruhvasto_take(uint8_t *book, size_t book_len, uint8_t *executions, size_t executions_len, ruhvasto_take_request request);
 
+/* Makes the ladder of the book: all 6,144 bytes are written, whatever they were. The book is only read.
+ * Refusals: RUHVASTO_UNSOUND_BOOK, RUHVASTO_LADDER_LENGTH. */
+RUHVASTO_USE_ANSWER RUHVASTO_NO_NULL
+uint32_t ruhvasto_ladder(const uint8_t *book, size_t book_len, uint8_t *ladder, size_t ladder_len);
+
+/* ADD, REDUCE AND TAKE WITH A LADDER. Each is lent the book's ladder beside the book; any other is refused, before anything is asked of a
+ * sound book. With the book's ladder each answers as the plain call does, and leaves the same bytes in book and execution buffer; accepted,
+ * the ladder is that of the book as it now is. */
+
+/* Add, with the ladder kept.
+ * Refusals: RUHVASTO_OUT_OF_RANGE, RUHVASTO_UNSOUND_BOOK, RUHVASTO_LADDER_LENGTH, RUHVASTO_OTHER_LADDER, RUHVASTO_STALE_NUMBER,
+ * RUHVASTO_COULD_TRADE, RUHVASTO_BOOK_FULL. */
+RUHVASTO_USE_ANSWER RUHVASTO_NO_NULL
+uint32_t ruhvasto_add_ladder(uint8_t *book, size_t book_len, uint8_t *ladder, size_t ladder_len, ruhvasto_add_request request);
+
+/* Reduce, with the ladder kept.
+ * Refusals: RUHVASTO_OUT_OF_RANGE, RUHVASTO_UNSOUND_BOOK, RUHVASTO_LADDER_LENGTH, RUHVASTO_OTHER_LADDER, RUHVASTO_UNKNOWN_NUMBER,
+ * RUHVASTO_TOO_MANY_SHARES. */
+RUHVASTO_USE_ANSWER RUHVASTO_NO_NULL
+uint32_t ruhvasto_reduce_ladder(uint8_t *book, size_t book_len, uint8_t *ladder, size_t ladder_len, uint32_t number, uint32_t shares);
+
+/* Take, with the ladder kept.
+ * Refusals: RUHVASTO_OUT_OF_RANGE, RUHVASTO_UNSOUND_BOOK, RUHVASTO_LADDER_LENGTH, RUHVASTO_OTHER_LADDER, RUHVASTO_SMALL_BUFFER. */
+RUHVASTO_USE_ANSWER RUHVASTO_NO_NULL
+ruhvasto_taken ruhvasto_take_ladder(uint8_t *book, size_t book_len, uint8_t *executions, size_t executions_len, uint8_t *ladder,
+    size_t ladder_len, ruhvasto_take_request request);
+
 /* For reading what the calls return and write. These functions are not in the library; they are compiled where they are used. */
 
 /* A refusal number in words. Every number has some: one that no call returns is an "unknown refusal". */
@@ -219,6 +278,8 @@ static inline const char *ruhvasto_refusal_name(uint32_t refusal)
     case RUHVASTO_ACCEPTED: return "accepted";
     case RUHVASTO_OUT_OF_RANGE: return "out of range";
     case RUHVASTO_UNSOUND_BOOK: return "unsound book";
+    case RUHVASTO_LADDER_LENGTH: return "ladder length";
+    case RUHVASTO_OTHER_LADDER: return "other ladder";
     case RUHVASTO_UNKNOWN_NUMBER: return "unknown number";
     case RUHVASTO_STALE_NUMBER: return "stale number";
     case RUHVASTO_COULD_TRADE: return "could trade";
@@ -285,6 +346,23 @@ RUHVASTO_NO_NULL static inline ruhvasto_execution ruhvasto_execution_at(const ui
     execution.shares = ruhvasto_number_at(bytes + 12);
     execution.paragraph = bytes[2];
     return execution;
+}
+
+/* The fields of a row of a ladder. */
+typedef struct {
+    uint32_t side, price, displayed, other, orders;
+} ruhvasto_row;
+
+/* Of the 24 bytes of a row. Of zeros behind the last row every field is 0. */
+RUHVASTO_NO_NULL static inline ruhvasto_row ruhvasto_row_at(const uint8_t *bytes)
+{
+    ruhvasto_row row;
+    row.side = bytes[2];
+    row.price = ruhvasto_number_at(bytes + 4);
+    row.displayed = ruhvasto_number_at(bytes + 8);
+    row.other = ruhvasto_number_at(bytes + 12);
+    row.orders = bytes[16] + 256u * bytes[17];
+    return row;
 }
 
 #ifdef __cplusplus

@@ -1,7 +1,8 @@
 """docs/CALLS.md: the tables of calls, and the cases by hand."""
 import re
 
-from pages.library import CALLS, Take, Wrong, answer, executions_in, fillsheet, listed, orders_in, sheet_of, traded
+from pages.library import (CALLS, FORMS, Take, Wrong, answer, executions_in, fillsheet, listed, orders_in, rows_in, sheet_of, totals,
+                           traded)
 from pages.markdown import codes, figures, number, read
 from pages.page import Page, tried, values_in
 
@@ -21,34 +22,47 @@ class Calls(Page):
         "number, shares | returned | orders afterwards: number, kind, size/minimum": "reduces",
         "side, limit, size, algorithm | bytes for executions | returned: refusal, count, left | executions, in order | orders afterwards":
             "taken",
+        "buffer | bytes of the ladder | returned": "ladders",
+        "row | side | price | displayed shares | other shares | orders": "rows",
+        "call | numbers; of take then the bytes for executions | ladder | returned | rows afterwards": "kept",
         "paragraph | algorithm 1 | algorithms 2 and 3": "paragraphs",
         "order | size | exact share | first step | lacks | rest | second step | gets": "sharing",
         "algorithm | paragraph | order | minimum | shares left | gets": "turns",
     }
-    has = {"refusals": 1, "stack": 1, "prototypes": 5, "ranges": 4, "answers": 3, "checks": 1, "finds": 1, "adds": 1, "records": 1, "reduces": 1,
-           "taken": 1, "paragraphs": 1, "sharing": 5, "printed": 3, "turns": 1}
+    has = {"refusals": 1, "stack": 1, "prototypes": 7, "ranges": 4, "answers": 3, "checks": 1, "finds": 1, "adds": 1, "records": 1, "reduces": 1,
+           "taken": 1, "ladders": 1, "rows": 1, "kept": 1, "paragraphs": 1, "sharing": 5, "printed": 3, "turns": 1}
     prose = ("condition", "why")
-    given = ("buffer", "looked for", "side, kind, number, price, size, minimum", "number, shares", "side, limit, size, algorithm", "bytes for executions")
+    given = ("buffer", "looked for", "side, kind, number, price, size, minimum", "number, shares", "side, limit, size, algorithm", "bytes for executions",
+             "bytes of the ladder", "numbers; of take then the bytes for executions", "ladder")
 
     def code(self, lines):
         return "prototypes" if lines[0].startswith("C  ") else "printed" if self.before.endswith("Printed:") else None
 
+    # The table is in the order in which each call says its refusals. A form with a ladder has those of its plain call, and two more.
     def refusals(self, rows):
+        of_call = self.header.of_call
         for (line, row), (value, name) in zip(rows, self.header.refusals, strict=True):
-            calls = ", ".join(call for call in CALLS if value == 0 or value in self.header.of_call[call])
-            self.hold(line, [row[0], row[1], row[3]], [str(value), f"`{name}`", calls])
+            calls = [call for call in CALLS if value == 0 or value in of_call[call]]
+            calls += ["the forms with a ladder"] if all(value in set(of_call[f"{call}_ladder"]) - set(of_call[call]) for call in FORMS) else []
+            self.hold(line, [row[0], row[1], row[3]], [str(value), f"`{name}`", ", ".join(calls)])
+        for said in of_call.values():
+            self.hold(rows[0][0], said, [value for value, _ in self.header.refusals if value in said])
+        for call in FORMS:
+            self.hold(rows[0][0], set(of_call[f"{call}_ladder"]), {*of_call[call], 9, 10})
 
     def stack(self, rows):
-        names = {"check, find, add, reduce": "STACK_BYTES", "take": "TAKE_STACK_BYTES"}
+        names = {"check, find, add, reduce": "STACK_BYTES", "take": "TAKE_STACK_BYTES",
+                 "ladder, and the forms with a ladder": "LADDER_STACK_BYTES"}
         for (line, row), (calls, name) in zip(rows, names.items(), strict=True):
             self.hold(line, row, [calls, f"{self.header[name]:,}", f"`RUHVASTO_{name}`"])
 
-    # The header declares the form for C, and the crate named has the one for Rattle.
+    # The header declares what is for C, and the crate named has what is for Rattle.
     def prototypes(self, line, lines):
-        in_c, rattle = re.match(r"C (.*?;) Rattle (.*)$", " ".join(" ".join(lines).split())).groups()
-        self.hold(line, in_c in self.header.flat, True)
+        in_c, rattle = re.match(r"C (.*;) Rattle (.*)$", " ".join(" ".join(lines).split())).groups()
+        for prototype in re.findall(r"\S[^;]*;", in_c):
+            self.hold(line, prototype in self.header.flat, True)
         for crate, function in re.findall(r"(\w+)::(\w+.*?)(?= \w+::\w+[(<]|$)", rattle):
-            source = " ".join(read(f"crates/{crate}/src/lib.rt").split())
+            source = " ".join(read(f"crates/{crate}/src/lib.rt").split()).replace("( ", "(").replace(", )", ")")
             self.hold(line, f"pub fn {function} " in source, True)
 
     # Whether the call of this section refuses 1, given some numbers in the place of its usual ones.
@@ -126,6 +140,48 @@ class Calls(Page):
             returned, self.book, buffer = self.library.call("take", self.book, side, limit, size, algorithm, executions=bytes(int(room)))
             true = [answer(returned), traded(executions_in(returned[1], buffer)), listed(orders_in(self.book))]
             self.hold(line, [said, executions, after], true)
+
+    # Whatever stood in the ladder; refused, it still stands there.
+    def ladders(self, rows):
+        for line, (buffer, length, said) in rows:
+            book, before = self.buffer(buffer), bytes([255] * number(length))
+            (refusal,), _, _, ladder = self.library.keep("ladder", book, before)
+            self.hold(line, said, str(refusal))
+            self.hold(line, ladder == (before if refusal else self.library.ladder(book)), True)
+
+    def rows(self, rows):
+        self.ladder = self.library.ladder(self.book)
+        for place, ((line, row), true) in enumerate(zip(rows, rows_in(self.ladder), strict=True)):
+            self.hold(line, row, [str(n) for n in (place, *true)])
+        self.table_left = self.book
+
+    # The ladder that the calls before left, or another one in its place.
+    def lent(self, said):
+        if match := re.match(r"its first (\d+) bytes$", said):
+            return self.ladder[:int(match[1])]
+        match = re.match(r"kept(?:, byte (\d+) = (\w\w) hex)?$", said)
+        data = bytearray(self.ladder)
+        if match[1]:
+            if data[int(match[1])] == int(match[2], 16):
+                raise Wrong(f"no change: {said}")
+            data[int(match[1])] = int(match[2], 16)
+        return bytes(data)
+
+    # A refused call leaves all as it was; with the ladder that was kept each does what the plain call does, and leaves the new book's.
+    def kept(self, rows):
+        for line, (call, given, lent, said, after) in rows:
+            numbers, before = figures(given), self.lent(lent)
+            executions = bytes([238] * numbers.pop()) if call == "take" else b""
+            returned, book, filled, ladder = self.library.keep(f"{call}_ladder", self.book, before, *numbers, executions=executions)
+            true = "as before" if ladder == before else totals(rows_in(ladder))
+            self.hold(line, [said, after], [answer(returned) if call == "take" else str(returned[0]), true])
+            if lent == "kept":
+                self.hold(line, (returned, book, filled) == self.library.call(call, self.book, *numbers, executions=executions), True)
+            if returned[0]:
+                self.hold(line, (book, filled, ladder) == (self.book, executions, before), True)
+            else:
+                self.hold(line, ladder == self.library.ladder(book), True)
+                self.book, self.ladder = book, ladder
 
     def paragraphs(self, rows):
         lot = self.header["ROUND_LOT"]

@@ -1,7 +1,7 @@
 """docs/FORMATS.md: limits, layouts, dumps and sheets."""
 import re
 
-from pages.library import Execution, Take, answer, dump, executions_in, fillsheet, is_longest_sheet, orders_in, traded
+from pages.library import Execution, Row, SIDES, Take, answer, dump, executions_in, fillsheet, is_longest_sheet, orders_in, rows_in, traded
 from pages.markdown import codes, figures, number, read
 from pages.page import Page, tried, values_in
 
@@ -18,7 +18,7 @@ class Formats(Page):
         "number | when": "printable",
         "line | printed | why": "lines",
     }
-    has = {"limits": 1, "layout": 2, "dump": 5, "fields": 1, "grammar": 2, "commands": 1, "printable": 1, "sheet": 1, "printed": 1, "lines": 1}
+    has = {"limits": 1, "layout": 3, "dump": 6, "fields": 1, "grammar": 2, "commands": 1, "printable": 1, "sheet": 1, "printed": 1, "lines": 1}
     prose = ("why", "meaning")
     given = ("line",)
 
@@ -39,6 +39,9 @@ class Formats(Page):
             "executions of one take": [0, h["EXECUTIONS_BYTES"] // h["EXECUTION_BYTES"]],
             "paragraph of an execution": [min(self.named(2)), max(self.named(2)), max(self.named(1)), 1],
             "shares of an execution": [1, h["SIZE_MOST"]],
+            "bytes of a ladder": [h["LADDER_BYTES"]] * 2, "bytes of a row": [h["ROW_BYTES"]] * 2,
+            "rows of a ladder": [0, h["LADDER_ROWS"]], "displayed shares, other shares of a row": [0, self.largest().displayed],
+            "orders of a row": [1, self.largest().orders],
             "bytes of a sheet for `fillsheet`": [0, 65536],
         }
         for (line, row), (what, numbers) in zip(rows, true.items(), strict=True):
@@ -47,15 +50,33 @@ class Formats(Page):
 
     # A form of bytes: places without a gap, widths, and the values at each.
     def layout(self, rows):
-        executions = self.heading == "The execution"
+        field_holds, size = {"The record of an order": (self.record_field, "RECORD_BYTES"),
+                             "The execution": (self.execution_field, "EXECUTION_BYTES"),
+                             "The ladder": (self.row_field, "ROW_BYTES")}[self.heading]
         at = 0
         for line, (places, width, field, values) in rows:
             first, *last = figures(places)
             last = last[0] if last else first
             self.hold(line, [first, int(width)], [at, last - first + 1])
             at = last + 1
-            (self.execution_field if executions else self.record_field)(line, first, int(width), field, values)
-        self.hold(rows[-1][0], at, self.header["EXECUTION_BYTES" if executions else "RECORD_BYTES"])
+            field_holds(line, first, int(width), field, values)
+        self.hold(rows[-1][0], at, self.header[size])
+
+    # The row of as many orders of the largest size as a book can have.
+    def largest(self):
+        (row,) = rows_in(self.library.ladder(self.library.book(", ".join([f"D {self.header['SIZE_MOST']}"] * self.header["BOOK_ORDERS"]))))
+        return row
+
+    # Of a row with numbers that differ, and of the largest.
+    def row_field(self, line, first, width, field, values):
+        ladder = self.library.ladder(self.library.book("D 600 at 4660, H 500 at 4660, M 400/1 at 4660"))
+        true = {0: ("mark", ladder[:2].hex(" ").upper() + " hex", 0x444c), 2: ("side", "1 buy, 2 sell", 2), 3: ("none", "zero", 0),
+                4: ("price", "as in the records", 4660),
+                8: ("displayed shares, those of orders of kind 1", f"0 to {self.largest().displayed:,}", 600),
+                12: ("other shares, those of orders of kinds 2 and 3", f"0 to {self.largest().displayed:,}", 900),
+                16: ("number of orders, of whatever kind", f"1 to {self.largest().orders}", 3), 18: ("none", "zero", 0)}[first]
+        self.hold(line, (field, values, int.from_bytes(ladder[first:first + width], "little")), true)
+        self.hold(line, rows_in(ladder), [Row(2, 4660, 600, 900, 3)])
 
     # The paragraphs that executions name, where a take fills an order for each.
     def named(self, algorithm):
@@ -111,7 +132,9 @@ class Formats(Page):
         self.hold(line, refusal, 0)
 
     def dump(self, line, lines):
-        of = re.match(r"\*\*Dump\*\* of the (book|execution buffer)\b", self.before)[1]
+        of = re.match(r"\*\*Dump\*\* of the (book|execution buffer|ladder)\b", self.before)[1]
+        if of == "ladder":
+            return self.dump_ladder(line, lines)
         if of == "book":
             orders = orders_in(self.book)
             remarks = {32 * i: f"order {o.number}" for i, o in enumerate(orders)} | {32 * len(orders): "free"}
@@ -120,6 +143,15 @@ class Formats(Page):
             remarks = {16 * i: traded([e]) for i, e in enumerate(executions)} | {16 * self.count: "as it was"}
         self.dumped = self.book if of == "book" else self.executions
         for i, (said, true) in enumerate(zip(lines, dump(self.dumped, remarks), strict=True)):
+            self.hold(line + i, said, true)
+
+    # Its rows, and one behind them; rows_in has seen that all behind them is zero.
+    def dump_ladder(self, line, lines):
+        ladder, each, sides = self.library.ladder(self.book), self.header["ROW_BYTES"], {number: side for side, number in SIDES.items()}
+        rows = rows_in(ladder)
+        remarks = {each * i: f"{sides[r.side]} at {r.price}: {r.displayed:,} and {r.other:,} in {r.orders}" for i, r in enumerate(rows)}
+        remarks[each * len(rows)] = "free, and so are all behind it"
+        for i, (said, true) in enumerate(zip(lines, dump(ladder[:each * (len(rows) + 1)], remarks, each), strict=True)):
             self.hold(line + i, said, true)
 
     # A record of the last dump, field by field.

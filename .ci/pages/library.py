@@ -8,7 +8,8 @@ import subprocess
 from pages.markdown import number, read
 
 HEADER, ARCHIVE, FILLSHEET = "include/ruhvasto.h", "target/staticlib/libruhvasto.a", "target/bin/fillsheet"
-CALLS = ["check", "find", "add", "reduce", "take"]
+CALLS = ["check", "find", "add", "reduce", "take", "ladder"]
+FORMS = ["add", "reduce", "take"]  # the calls that also have a form with a ladder
 SIDES = {"buy": 1, "sell": 2}
 KINDS = {"D": 1, "H": 2, "M": 3}
 ORDER = re.compile(r"(?:(buy|sell) )?([DHM]) ([\d,]+)(?:/([\d,]+))?(?: at (\d+))?$")
@@ -16,6 +17,7 @@ TAKE = re.compile(r"(buy|sell) ([\d,]+)(?: at (\d+))?, algorithms? (\d)(?: and (
 
 Order = collections.namedtuple("Order", "side kind number price size minimum setter")
 Execution = collections.namedtuple("Execution", "number price shares paragraph")
+Row = collections.namedtuple("Row", "side price displayed other orders")
 Take = collections.namedtuple("Take", "side limit size algorithm")
 
 
@@ -29,10 +31,10 @@ class Header:
         text = read(HEADER)
         self.flat = " ".join(text.split())
         self.constants = {name: int(value) for name, value in re.findall(r"RUHVASTO_(\w+)(?: =)? (\d+)\b", text)}
-        listed = re.search(r"/\* Refusal numbers\. \*/\nenum \{(.*?)\n\};", text, re.S)[1]
+        listed = re.search(r"/\* Refusal numbers, [^\n]* \*/\nenum \{(.*?)\n\};", text, re.S)[1]
         self.refusals = [(int(value), name) for name, value in re.findall(r"(RUHVASTO_\w+) = (\d+)", listed)]
         numbers = {name: value for value, name in self.refusals}
-        said = re.findall(r"Refusals: ((?:RUHVASTO_\w+[, ]*)+)\. \*/[^;]*?\bruhvasto_(\w+)\([^;]*;", self.flat)
+        said = re.findall(r"Refusals: ((?:RUHVASTO_\w+[, *]*)+)\. \*/[^;]*?\bruhvasto_(\w+)\([^;]*;", self.flat)
         self.of_call = {call: [numbers[name] for name in re.findall(r"\w+", names)] for names, call in said}
 
     def __getitem__(self, name):
@@ -52,16 +54,30 @@ class Library:
         compile_c(".ci/documents.c", program)
         self.process = subprocess.Popen([program], stdin=subprocess.PIPE, stdout=subprocess.PIPE, text=True)
 
-    # The numbers that a call returns, and both buffers afterwards.
+    # The numbers that a call returns, and book and executions afterwards.
     def call(self, name, book, *numbers, executions=b""):
+        return self.keep(name, book, b"", *numbers, executions=executions)[:3]
+
+    # The same of a call with a ladder, and the ladder afterwards.
+    def keep(self, name, book, ladder, *numbers, executions=b""):
         if max(numbers, default=0) > 4294967295:
             raise Wrong(f"a number of more than four bytes: {numbers}")
-        self.process.stdin.write(f"{name} x{book.hex()} x{executions.hex()} {' '.join(map(str, numbers))}\n")
+        buffers = " ".join(f"x{buffer.hex()}" for buffer in (book, executions, ladder))
+        self.process.stdin.write(f"{name} {buffers} {' '.join(map(str, numbers))}\n")
         self.process.stdin.flush()
-        *answer, book, executions = self.process.stdout.readline().split()
-        return tuple(map(int, answer)), bytes.fromhex(book[1:]), bytes.fromhex(executions[1:])
+        *answer, book, executions, ladder = self.process.stdout.readline().split()
+        return tuple(map(int, answer)), *(bytes.fromhex(buffer[1:]) for buffer in (book, executions, ladder))
+
+    # The ladder that a new call makes of a book, whatever stood in it.
+    @functools.lru_cache(maxsize=None)
+    def ladder(self, book):
+        (refusal,), _, _, ladder = self.keep("ladder", book, bytes([255] * 6144))
+        if refusal:
+            raise Wrong(f"the ladder is refused {refusal}")
+        return ladder
 
     # A book made by adding orders: 'D 600, buy M 500/400 at 99900', with '4 records, ' in front where it has room for more.
+    @functools.lru_cache(maxsize=None)
     def book(self, said):
         room = re.match(r"(\d+) records, ", said)
         said = said[room.end():] if room else said
@@ -130,6 +146,15 @@ def executions_in(count, buffer):
     return [Execution(*numbers_at(e, (4, 8, 12)), e[2]) for e in found]
 
 
+# The rows of a ladder, up to the first whose first byte is zero. All behind them must be zeros.
+def rows_in(ladder):
+    rows = [ladder[at:at + 24] for at in range(0, len(ladder), 24)]
+    used = next((place for place, row in enumerate(rows) if not row[0]), len(rows))
+    if any(ladder[24 * used:]):
+        raise Wrong("bytes behind the rows")
+    return [Row(r[2], *numbers_at(r, (4, 8, 12)), int.from_bytes(r[16:18], "little")) for r in rows[:used]]
+
+
 def letter(kind):
     return next(name for name, value in KINDS.items() if value == kind)
 
@@ -144,14 +169,19 @@ def traded(executions):
     return ", ".join(f"{e.shares:,} of {e.number} at {e.price} by paragraph {e.paragraph}" for e in executions) or "none"
 
 
+# The rows of a ladder as the tables have them: side, price, displayed shares, other shares, orders.
+def totals(rows):
+    return ", ".join(" ".join(map(str, row)) for row in rows) or "none"
+
+
 def answer(numbers):
     return "`{" + ", ".join(map(str, numbers)) + "}`"
 
 
-# Bytes as a dump has them, with a remark behind some rows.
-def dump(data, remarks):
-    for at in range(0, len(data), 16):
-        row = data[at:at + 16]
-        words = "  ".join(row[i:i + 4].hex(" ") for i in range(0, 16, 4))
+# Bytes as a dump has them, so many to a line, with a remark behind some lines.
+def dump(data, remarks, width=16):
+    for at in range(0, len(data), width):
+        row = data[at:at + width]
+        words = "  ".join(row[i:i + 4].hex(" ") for i in range(0, width, 4))
         text = "".join(chr(b) if 32 <= b < 127 else "." for b in row)
         yield f"{at:04x}:  {words}   |{text}|   {remarks.get(at, '')}".rstrip()

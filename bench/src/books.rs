@@ -1,4 +1,5 @@
-//! The books that are timed. All orders are sells, numbered from 1.
+//! The books that are timed. All orders are sells, numbered from 1, but in the
+//! books with a ladder, which have buys too.
 
 use model::book::{self, Kind, Order, Side, RECORD_LENGTH};
 
@@ -117,28 +118,51 @@ pub fn every_paragraph(prices: u32) -> Vec<Order> {
         .collect()
 }
 
+/// Sells and buys by turns, of every kind, each side at so many prices, which come
+/// in no order. The buys are below the sells.
+pub fn both_sides(count: u32, prices: u32) -> Vec<Order> {
+    let kinds = [
+        Kind::Displayed,
+        Kind::NonDisplayed,
+        Kind::MinimumQuantity { minimum: 50 },
+    ];
+    (0..count)
+        .map(|place| {
+            let cents = place / 2 * 53 % prices;
+            let kind = kinds[place as usize % kinds.len()];
+            let order = sell(place, kind, price(cents), mixed_size(place));
+            match place % 2 {
+                0 => order,
+                _ => Order {
+                    side: Side::Buy,
+                    price: BEST_PRICE - CENT - cents * CENT,
+                    ..order
+                },
+            }
+        })
+        .collect()
+}
+
 /// The bytes of a book with room for so many orders, entered one by one.
 pub fn entered(orders: &[Order], records: u32) -> Vec<u8> {
     let mut book = vec![0; records as usize * RECORD_LENGTH];
     for order in orders {
-        let minimum = match order.kind {
-            Kind::MinimumQuantity { minimum } => minimum,
-            _ => 0,
-        };
-        let kind = u32::from(order.record()[3]);
-        let side = order.side as u32;
-        let refusal = model::add(
-            &mut book,
-            side,
-            kind,
-            order.number,
-            order.price,
-            order.size,
-            minimum,
-        );
+        let [side, kind, number, price, size, minimum] = numbers(order);
+        let refusal = model::add(&mut book, side, kind, number, price, size, minimum);
         assert_eq!(refusal, 0, "the orders of a case can all be entered");
     }
     book
+}
+
+/// Side, kind, number, price, size and minimum, as add takes them.
+pub fn numbers(order: &Order) -> [u32; 6] {
+    let minimum = match order.kind {
+        Kind::MinimumQuantity { minimum } => minimum,
+        _ => 0,
+    };
+    let kind = u32::from(order.record()[3]);
+    let side = order.side as u32;
+    [side, kind, order.number, order.price, order.size, minimum]
 }
 
 /// The bytes of a full book of orders that all have the setter mark.

@@ -18,6 +18,33 @@ pub enum Call {
     },
     /// Side, limit, size and algorithm.
     Take([u32; 4]),
+    Ladder,
+    /// The forms that keep a ladder, with the numbers of their plain calls.
+    AddLadder([u32; 6]),
+    ReduceLadder {
+        number: u32,
+        shares: u32,
+    },
+    TakeLadder([u32; 4]),
+}
+
+impl Call {
+    /// The plain call of a form that keeps a ladder.
+    pub fn plain(self) -> Option<Call> {
+        match self {
+            Call::AddLadder(order) => Some(Call::Add(order)),
+            Call::ReduceLadder { number, shares } => Some(Call::Reduce { number, shares }),
+            Call::TakeLadder(incoming) => Some(Call::Take(incoming)),
+            _ => None,
+        }
+    }
+}
+
+/// What a call is lent. A buffer that it has no use for may be empty.
+pub struct Buffers<'a> {
+    pub book: &'a mut [u8],
+    pub executions: &'a mut [u8],
+    pub ladder: &'a mut [u8],
 }
 
 pub trait Calls {
@@ -26,17 +53,48 @@ pub trait Calls {
     fn add(book: &mut [u8], order: [u32; 6]) -> Numbers;
     fn reduce(book: &mut [u8], number: u32, shares: u32) -> Numbers;
     fn take(book: &mut [u8], executions: &mut [u8], incoming: [u32; 4]) -> Numbers;
+    fn ladder(book: &[u8], ladder: &mut [u8]) -> Numbers;
+    fn add_ladder(book: &mut [u8], ladder: &mut [u8], order: [u32; 6]) -> Numbers;
+    fn reduce_ladder(book: &mut [u8], ladder: &mut [u8], number: u32, shares: u32) -> Numbers;
+    fn take_ladder(buffers: Buffers, incoming: [u32; 4]) -> Numbers;
 
     #[inline(always)]
-    fn answer(call: &Call, book: &mut [u8], executions: &mut [u8]) -> Numbers {
+    fn answer(call: &Call, buffers: Buffers) -> Numbers {
+        let Buffers {
+            book,
+            executions,
+            ladder,
+        } = buffers;
         match *call {
             Call::Check => Self::check(book),
             Call::Find { number } => Self::find(book, number),
             Call::Add(order) => Self::add(book, order),
             Call::Reduce { number, shares } => Self::reduce(book, number, shares),
             Call::Take(incoming) => Self::take(book, executions, incoming),
+            Call::Ladder => Self::ladder(book, ladder),
+            Call::AddLadder(order) => Self::add_ladder(book, ladder, order),
+            Call::ReduceLadder { number, shares } => {
+                Self::reduce_ladder(book, ladder, number, shares)
+            }
+            Call::TakeLadder(incoming) => {
+                let buffers = Buffers {
+                    book,
+                    executions,
+                    ladder,
+                };
+                Self::take_ladder(buffers, incoming)
+            }
         }
     }
+}
+
+/// An answer that is a refusal number alone.
+fn only(refusal: u32) -> Numbers {
+    all((refusal, 0, 0))
+}
+
+fn all((refusal, count, left): (u32, u32, u32)) -> Numbers {
+    [refusal, count, left].map(|number| number as usize)
 }
 
 pub struct FastModel;
@@ -54,18 +112,37 @@ impl Calls for FastModel {
 
     fn add(book: &mut [u8], order: [u32; 6]) -> Numbers {
         let [side, kind, number, price, size, minimum] = order;
-        let refusal = fast::add(book, side, kind, number, price, size, minimum);
-        [refusal as usize, 0, 0]
+        only(fast::add(book, side, kind, number, price, size, minimum))
     }
 
     fn reduce(book: &mut [u8], number: u32, shares: u32) -> Numbers {
-        [fast::reduce(book, number, shares) as usize, 0, 0]
+        only(fast::reduce(book, number, shares))
     }
 
     fn take(book: &mut [u8], executions: &mut [u8], incoming: [u32; 4]) -> Numbers {
         let [side, limit, size, algorithm] = incoming;
-        let (refusal, count, left) = fast::take(book, executions, side, limit, size, algorithm);
-        [refusal as usize, count as usize, left as usize]
+        all(fast::take(book, executions, side, limit, size, algorithm))
+    }
+
+    fn ladder(book: &[u8], ladder: &mut [u8]) -> Numbers {
+        only(fast::ladder(book, ladder))
+    }
+
+    fn add_ladder(book: &mut [u8], ladder: &mut [u8], order: [u32; 6]) -> Numbers {
+        only(fast::add_ladder(book, ladder, order))
+    }
+
+    fn reduce_ladder(book: &mut [u8], ladder: &mut [u8], number: u32, shares: u32) -> Numbers {
+        only(fast::reduce_ladder(book, ladder, number, shares))
+    }
+
+    fn take_ladder(buffers: Buffers, incoming: [u32; 4]) -> Numbers {
+        let Buffers {
+            book,
+            executions,
+            ladder,
+        } = buffers;
+        all(fast::take_ladder(book, executions, ladder, incoming))
     }
 }
 
@@ -90,5 +167,21 @@ impl Calls for Library {
 
     fn take(book: &mut [u8], executions: &mut [u8], incoming: [u32; 4]) -> Numbers {
         library::take(book, executions, incoming)
+    }
+
+    fn ladder(book: &[u8], ladder: &mut [u8]) -> Numbers {
+        library::ladder(book, ladder)
+    }
+
+    fn add_ladder(book: &mut [u8], ladder: &mut [u8], order: [u32; 6]) -> Numbers {
+        library::add_ladder(book, ladder, order)
+    }
+
+    fn reduce_ladder(book: &mut [u8], ladder: &mut [u8], number: u32, shares: u32) -> Numbers {
+        library::reduce_ladder(book, ladder, number, shares)
+    }
+
+    fn take_ladder(buffers: Buffers, incoming: [u32; 4]) -> Numbers {
+        library::take_ladder(buffers.book, buffers.executions, buffers.ladder, incoming)
     }
 }

@@ -2,24 +2,44 @@
 
 use crate::books::{self, price, BEST_PRICE};
 use crate::calls::Call;
+use crate::ladders;
 use model::book::Order;
 
+#[derive(Clone)]
 pub struct Case {
     /// What is called.
     pub call_name: &'static str,
     pub book_name: String,
     pub call: Call,
     pub book: Vec<u8>,
+    /// Empty for a call without one.
+    pub ladder: Vec<u8>,
     /// How many executions the call has, where the case is about that.
     pub executions: Option<usize>,
 }
 
+impl Case {
+    /// Beside a form that keeps a ladder: its plain call, and the new ladder of the
+    /// same book.
+    pub fn plain_and_new(&self) -> Option<[Case; 2]> {
+        let plain = Case {
+            call: self.call.plain()?,
+            ladder: Vec::new(),
+            ..self.clone()
+        };
+        let new = Case {
+            call: Call::Ladder,
+            executions: None,
+            ..self.clone()
+        };
+        Some([plain, new])
+    }
+}
+
 /// How many orders the books have.
 const COUNTS: [u32; 3] = [16, 64, 256];
-const FULL: u32 = 256;
-const BUY: u32 = 1;
-const SELL: u32 = 2;
-const DISPLAYED: u32 = 1;
+pub const FULL: u32 = 256;
+pub const BUY: u32 = 1;
 
 const TAKES: [&str; 3] = [
     "take, algorithm 1 (price/time)",
@@ -50,6 +70,7 @@ pub fn all() -> Vec<Case> {
         cases.extend(takes_of_minimums(algorithm));
         cases.extend(takes_of_groups(algorithm));
     }
+    cases.extend(ladders::cases());
     cases
 }
 
@@ -65,6 +86,7 @@ fn on_displayed(
             book_name: book_name(count, many_prices),
             call: call(count, &orders),
             book: books::entered(&orders, count),
+            ladder: Vec::new(),
             executions: None,
         }
     })
@@ -90,6 +112,7 @@ fn checks() -> Vec<Case> {
         book_name: book_name.to_owned(),
         call: Call::Check,
         book: books::marked(orders),
+        ladder: Vec::new(),
         executions: None,
     };
     cases.push(setters(
@@ -108,12 +131,12 @@ fn adds() -> impl Iterator<Item = Case> {
     sizes_and_prices().map(|(count, many_prices)| {
         let orders = books::displayed(count, many_prices);
         let (last, before) = orders.split_last().expect("an order");
-        let order = [SELL, DISPLAYED, last.number, last.price, last.size, 0];
         Case {
             call_name: "add",
             book_name: book_name(count, many_prices),
-            call: Call::Add(order),
+            call: Call::Add(books::numbers(last)),
             book: books::entered(before, count),
+            ladder: Vec::new(),
             executions: None,
         }
     })
@@ -132,6 +155,7 @@ fn take(
         book_name: book_name.into(),
         call: Call::Take([BUY, price(FULL), size, algorithm]),
         book: books::entered(orders, orders.len() as u32),
+        ladder: Vec::new(),
         executions,
     }
 }

@@ -7,12 +7,14 @@
 mod books;
 mod calls;
 mod cases;
+mod ladders;
 mod machine;
 mod measure;
 mod plot;
 mod report;
 
 use cases::Case;
+use measure::Measured;
 use report::Timed;
 use std::env;
 use std::fs;
@@ -36,7 +38,13 @@ fn main() -> ExitCode {
 /// Makes each call once by both and compares the results, timing nothing.
 fn quick() -> ExitCode {
     let (mut passed, mut failed) = (0, 0);
-    for case in cases::all() {
+    let cases = cases::all();
+    let beside: Vec<Case> = cases
+        .iter()
+        .filter_map(Case::plain_and_new)
+        .flatten()
+        .collect();
+    for case in cases.into_iter().chain(beside) {
         match measure::compare(&case) {
             Ok(()) => passed += 1,
             Err(difference) => {
@@ -64,17 +72,35 @@ fn measured(folder: Option<&Path>) -> Result<(), String> {
     let before = machine::load();
     let mut results = Vec::new();
     for case in cases::all() {
-        measure::compare(&case)
-            .map_err(|difference| format!("{}: {difference}", full_name(&case)))?;
-        let measured = measure::measure(&case);
-        results.push(Timed { case, measured });
+        let measured = compared_and_measured(&case)?;
+        let beside = match case.plain_and_new() {
+            Some([plain, new]) => {
+                Some([compared_and_measured(&plain)?, compared_and_measured(&new)?])
+            }
+            None => None,
+        };
+        results.push(Timed {
+            case,
+            measured,
+            beside,
+        });
     }
-    print!("{}", report::tables(&results));
+    let tables = [
+        report::tables(&results),
+        report::growth(&results),
+        report::forms(&results),
+    ];
+    print!("{}", tables.join("\n"));
     let load = [before, machine::load()];
     match folder {
         Some(folder) => write(folder, &results, load).map_err(|error| error.to_string()),
         None => Ok(()),
     }
+}
+
+fn compared_and_measured(case: &Case) -> Result<Measured, String> {
+    measure::compare(case).map_err(|difference| format!("{}: {difference}", full_name(case)))?;
+    Ok(measure::measure(case))
 }
 
 fn write(folder: &Path, results: &[Timed], load: [String; 2]) -> std::io::Result<()> {

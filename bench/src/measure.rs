@@ -1,13 +1,13 @@
 //! Comparing and timing the two on one case.
 
-use crate::calls::{Calls, FastModel, Library};
+use crate::calls::{Buffers, Calls, FastModel, Library};
 use crate::cases::Case;
 use library::Numbers;
 use std::hint::black_box;
 use std::time::{Duration, Instant};
 
-/// Fresh copies of a book are made for so many bytes at a time, so that they
-/// stay in the nearest cache.
+/// Fresh copies of a book, and of the ladder beside it, are made for so many bytes
+/// at a time, so that they stay in the nearest cache.
 const COPIED_BYTES: usize = 32 * 1024;
 const EXECUTIONS_BYTES: usize = 4_096;
 /// What the execution buffer holds before a call.
@@ -44,22 +44,30 @@ pub struct Measured {
     pub ratio: Spread,
 }
 
-/// What a call answers and leaves in both buffers.
+/// What a call answers and leaves in the buffers.
 #[derive(PartialEq, Eq)]
 struct Outcome {
     numbers: Numbers,
     book: Vec<u8>,
     executions: Vec<u8>,
+    ladder: Vec<u8>,
 }
 
 fn outcome<C: Calls>(case: &Case) -> Outcome {
     let mut book = case.book.clone();
     let mut executions = vec![FILLER; EXECUTIONS_BYTES];
-    let numbers = C::answer(&case.call, &mut book, &mut executions);
+    let mut ladder = case.ladder.clone();
+    let buffers = Buffers {
+        book: &mut book,
+        executions: &mut executions,
+        ladder: &mut ladder,
+    };
+    let numbers = C::answer(&case.call, buffers);
     Outcome {
         numbers,
         book,
         executions,
+        ladder,
     }
 }
 
@@ -73,6 +81,8 @@ pub fn compare(case: &Case) -> Result<(), String> {
         "the books differ"
     } else if library.executions != fast.executions {
         "the executions differ"
+    } else if library.ladder != fast.ladder {
+        "the ladders differ"
     } else if library.numbers[0] != 0 {
         "the call is refused"
     } else if case
@@ -91,14 +101,16 @@ pub fn compare(case: &Case) -> Result<(), String> {
 struct Copies {
     books: Vec<u8>,
     executions: Vec<u8>,
+    ladders: Vec<u8>,
 }
 
 impl Copies {
     fn new(case: &Case) -> Copies {
-        let count = COPIED_BYTES / case.book.len();
+        let count = COPIED_BYTES / (case.book.len() + case.ladder.len());
         Copies {
             books: case.book.repeat(count),
             executions: vec![FILLER; EXECUTIONS_BYTES],
+            ladders: case.ladder.repeat(count),
         }
     }
 
@@ -108,10 +120,22 @@ impl Copies {
         for copy in self.books.chunks_exact_mut(case.book.len()) {
             copy.copy_from_slice(&case.book);
         }
+        // Of a case without a ladder there are no such copies, and one byte is
+        // as good as any other length.
+        for copy in self.ladders.chunks_exact_mut(case.ladder.len().max(1)) {
+            copy.copy_from_slice(&case.ladder);
+        }
+        let mut ladders = &mut self.ladders[..];
         let start = Instant::now();
         for book in self.books.chunks_exact_mut(case.book.len()) {
-            let (book, executions) = black_box((book, &mut self.executions));
-            black_box(C::answer(black_box(&case.call), book, executions));
+            let (ladder, others) = ladders.split_at_mut(case.ladder.len());
+            ladders = others;
+            let buffers = Buffers {
+                book,
+                executions: &mut self.executions,
+                ladder,
+            };
+            black_box(C::answer(black_box(&case.call), black_box(buffers)));
         }
         let spent = start.elapsed().saturating_sub(clock);
         let calls = self.books.len() / case.book.len();

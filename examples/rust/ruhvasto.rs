@@ -1,13 +1,16 @@
-//! The library's five calls for Rust. What each does, its ranges and its refusals are in ruhvasto.h. A slice is always to as many bytes as it
+//! The library's calls for Rust. What each does, its ranges and its refusals are in ruhvasto.h. A slice is always to as many bytes as it
 //! says, never NULL, and two that are lent at once to be written never overlap: so these functions are safe.
 
 /// The version of the interface that this module is written for.
-pub const VERSION: u32 = 3;
+pub const VERSION: u32 = 4;
 
 pub const RECORD_BYTES: usize = 32;
 pub const EXECUTION_BYTES: usize = 16;
 /// An execution buffer of this length is never too small.
 pub const EXECUTIONS_BYTES: usize = 4096;
+pub const ROW_BYTES: usize = 24;
+/// A ladder has this length and no other.
+pub const LADDER_BYTES: usize = 6144;
 
 /// The refusal number.
 #[derive(Clone, Copy, Debug, PartialEq, Eq)]
@@ -113,6 +116,65 @@ mod c {
             executions_len: usize,
             request: TakeRequest,
         ) -> Taken;
+        pub fn ruhvasto_ladder(
+            book: *const u8,
+            book_len: usize,
+            ladder: *mut u8,
+            ladder_len: usize,
+        ) -> u32;
+        pub fn ruhvasto_add_ladder(
+            book: *mut u8,
+            book_len: usize,
+            ladder: *mut u8,
+            ladder_len: usize,
+            request: AddRequest,
+        ) -> u32;
+        pub fn ruhvasto_reduce_ladder(
+            book: *mut u8,
+            book_len: usize,
+            ladder: *mut u8,
+            ladder_len: usize,
+            number: u32,
+            shares: u32,
+        ) -> u32;
+        pub fn ruhvasto_take_ladder(
+            book: *mut u8,
+            book_len: usize,
+            executions: *mut u8,
+            executions_len: usize,
+            ladder: *mut u8,
+            ladder_len: usize,
+            request: TakeRequest,
+        ) -> Taken;
+    }
+}
+
+impl AddRequest {
+    fn for_c(self) -> c::AddRequest {
+        let (kind, minimum) = match self.kind {
+            Kind::Displayed => (1, 0),
+            Kind::NonDisplayed => (2, 0),
+            Kind::MinimumQuantity(minimum) => (3, minimum),
+        };
+        c::AddRequest {
+            side: self.side as u32,
+            kind,
+            number: self.number,
+            price: self.price,
+            size: self.size,
+            minimum,
+        }
+    }
+}
+
+impl TakeRequest {
+    fn for_c(self) -> c::TakeRequest {
+        c::TakeRequest {
+            side: self.side as u32,
+            limit: self.limit,
+            size: self.size,
+            algorithm: self.algorithm as u32,
+        }
     }
 }
 
@@ -122,6 +184,14 @@ fn accepted(refusal: u32) -> Result<(), Refusal> {
     } else {
         Err(Refusal(refusal))
     }
+}
+
+fn accepted_take(taken: c::Taken) -> Result<Taken, Refusal> {
+    accepted(taken.refusal)?;
+    Ok(Taken {
+        count: taken.count,
+        left: taken.left,
+    })
 }
 
 /// The version of the library that is linked.
@@ -144,20 +214,7 @@ pub fn find(book: &[u8], number: u32) -> Result<&[u8], Refusal> {
 }
 
 pub fn add(book: &mut [u8], request: AddRequest) -> Result<(), Refusal> {
-    let (kind, minimum) = match request.kind {
-        Kind::Displayed => (1, 0),
-        Kind::NonDisplayed => (2, 0),
-        Kind::MinimumQuantity(minimum) => (3, minimum),
-    };
-    let request = c::AddRequest {
-        side: request.side as u32,
-        kind,
-        number: request.number,
-        price: request.price,
-        size: request.size,
-        minimum,
-    };
-    accepted(unsafe { c::ruhvasto_add(book.as_mut_ptr(), book.len(), request) })
+    accepted(unsafe { c::ruhvasto_add(book.as_mut_ptr(), book.len(), request.for_c()) })
 }
 
 pub fn reduce(book: &mut [u8], number: u32, shares: u32) -> Result<(), Refusal> {
@@ -169,25 +226,73 @@ pub fn take(
     executions: &mut [u8],
     request: TakeRequest,
 ) -> Result<Taken, Refusal> {
-    let request = c::TakeRequest {
-        side: request.side as u32,
-        limit: request.limit,
-        size: request.size,
-        algorithm: request.algorithm as u32,
-    };
-    let taken = unsafe {
+    accepted_take(unsafe {
         c::ruhvasto_take(
             book.as_mut_ptr(),
             book.len(),
             executions.as_mut_ptr(),
             executions.len(),
-            request,
+            request.for_c(),
         )
-    };
-    accepted(taken.refusal)?;
-    Ok(Taken {
-        count: taken.count,
-        left: taken.left,
+    })
+}
+
+/// Makes the ladder of the book, whatever stood in it.
+pub fn ladder(book: &[u8], ladder: &mut [u8]) -> Result<(), Refusal> {
+    accepted(unsafe {
+        c::ruhvasto_ladder(book.as_ptr(), book.len(), ladder.as_mut_ptr(), ladder.len())
+    })
+}
+
+/// Add, with the book's ladder kept.
+pub fn add_ladder(book: &mut [u8], ladder: &mut [u8], request: AddRequest) -> Result<(), Refusal> {
+    accepted(unsafe {
+        c::ruhvasto_add_ladder(
+            book.as_mut_ptr(),
+            book.len(),
+            ladder.as_mut_ptr(),
+            ladder.len(),
+            request.for_c(),
+        )
+    })
+}
+
+/// Reduce, with the book's ladder kept.
+pub fn reduce_ladder(
+    book: &mut [u8],
+    ladder: &mut [u8],
+    number: u32,
+    shares: u32,
+) -> Result<(), Refusal> {
+    accepted(unsafe {
+        c::ruhvasto_reduce_ladder(
+            book.as_mut_ptr(),
+            book.len(),
+            ladder.as_mut_ptr(),
+            ladder.len(),
+            number,
+            shares,
+        )
+    })
+}
+
+/// Take, with the book's ladder kept.
+pub fn take_ladder(
+    book: &mut [u8],
+    executions: &mut [u8],
+    ladder: &mut [u8],
+    request: TakeRequest,
+) -> Result<Taken, Refusal> {
+    accepted_take(unsafe {
+        c::ruhvasto_take_ladder(
+            book.as_mut_ptr(),
+            book.len(),
+            executions.as_mut_ptr(),
+            executions.len(),
+            ladder.as_mut_ptr(),
+            ladder.len(),
+            request.for_c(),
+        )
     })
 }
 
@@ -240,4 +345,34 @@ impl Execution {
             paragraph: bytes[2],
         }
     }
+}
+
+/// The fields of a row of a ladder.
+pub struct Row {
+    pub side: u8,
+    pub price: u32,
+    pub displayed: u32,
+    pub other: u32,
+    pub orders: u16,
+}
+
+impl Row {
+    /// Of the 24 bytes of a row.
+    pub fn of(bytes: &[u8]) -> Row {
+        Row {
+            side: bytes[2],
+            price: number_at(bytes, 4),
+            displayed: number_at(bytes, 8),
+            other: number_at(bytes, 12),
+            orders: u16::from_le_bytes([bytes[16], bytes[17]]),
+        }
+    }
+}
+
+/// The rows of a ladder. They end before the first whose first byte is zero, or with the last.
+pub fn rows(ladder: &[u8]) -> impl Iterator<Item = Row> + '_ {
+    ladder
+        .chunks_exact(ROW_BYTES)
+        .take_while(|bytes| bytes[0] != 0)
+        .map(Row::of)
 }

@@ -1,6 +1,7 @@
 //! Order allocation after PSX Rule 3307, written plainly from the rule and its
 //! scope, so that the library can be compared with it: five calls on the bytes
-//! of a lent book, and the fillsheet over them.
+//! of a lent book, the ladder beside it with a call and three forms of its own,
+//! and the fillsheet.
 //!
 //! A book is read into a list of orders, the list is changed, and the whole
 //! book is written anew. Nothing here is meant to be fast, save the module
@@ -10,11 +11,13 @@ pub mod book;
 mod calls;
 pub mod fast;
 mod fillsheet;
+pub mod ladder;
 mod sharing;
 mod take;
 
 pub use calls::{add, check, find, reduce};
 pub use fillsheet::{fillsheet, LONGEST_INPUT};
+pub use ladder::{add_ladder, ladder, reduce_ladder, take_ladder, LADDER_LENGTH};
 pub use take::{read_executions, take, Execution, EXECUTION_LENGTH};
 
 /// Why a call is refused. The conditions are looked at in this order.
@@ -22,6 +25,8 @@ pub use take::{read_executions, take, Execution, EXECUTION_LENGTH};
 pub enum Refusal {
     OutOfRange = 1,
     UnsoundBook = 2,
+    LadderLength = 9,
+    LadderOfAnotherBook = 10,
     NoSuchOrder = 3,
     NumberNotAboveAll = 4,
     CouldTrade = 5,

@@ -1,9 +1,14 @@
 //! The scope's cases, its refusals in their order, the readings of the rule that
-//! it rules out, what each paragraph of the rule says, and what executions name.
+//! it rules out, what each paragraph of the rule says, what executions name, and
+//! the ladder beside the book.
 
 mod books;
 mod cases;
+mod desk;
 mod executions;
+mod keeping;
+mod keeping_refused;
+mod ladders;
 mod lines;
 mod paragraphs;
 mod readings;

@@ -1,8 +1,9 @@
 //! The fast calls against the plain ones on random books: the same numbers, and
-//! the same bytes in both buffers.
+//! the same bytes in every buffer.
 
 use model::book::{self, Order, HIGHEST_PRICE, LARGEST_SIZE, LONGEST_BOOK, RECORD_LENGTH};
-use model::fast;
+use model::ladder::ROW_LENGTH;
+use model::{fast, LADDER_LENGTH};
 use support::Random;
 
 const SEED: u64 = 3307;
@@ -114,63 +115,175 @@ fn mostly(random: &mut Random, number: u32) -> u32 {
     }
 }
 
+/// What a random call on a book goes by.
+struct Known {
+    orders: Vec<Order>,
+    /// The number and size of one of them.
+    one: (u32, u32),
+}
+
+impl Known {
+    fn of(random: &mut Random, book: &[u8]) -> Known {
+        let orders = book::read(book).unwrap_or_default();
+        let one = orders.get(random.below(orders.len().max(1)));
+        let one = one.map_or((1, 1), |order| (order.number, order.size));
+        Known { orders, one }
+    }
+
+    fn find(&self, random: &mut Random) -> u32 {
+        mostly(random, self.one.0)
+    }
+
+    /// Side, kind, number, price, size and minimum.
+    fn add(&self, random: &mut Random, shape: &Shape) -> [u32; 6] {
+        let last = self.orders.last().map_or(0, |order| order.number);
+        let order = shape.order(random, last.saturating_add(1));
+        order.map(|number| mostly(random, number))
+    }
+
+    /// Number and shares.
+    fn reduce(&self, random: &mut Random) -> [u32; 2] {
+        let (number, size) = self.one;
+        let shares = random.one_of(&[1, size, size / 2 + 1, size + 1]);
+        [number, shares].map(|number| mostly(random, number))
+    }
+
+    /// Side, limit, size and algorithm.
+    fn take(&self, random: &mut Random, shape: &Shape) -> [u32; 4] {
+        let total: u32 = self.orders.iter().map(|order| order.size).sum();
+        let part = random.within(1..=total.clamp(1, LARGEST_SIZE));
+        let size = random.one_of(&[part, part / 2 + 1, part / 8 + 1, shape.largest, 99]);
+        let (side, limit) = (random.within(1..=2), shape.price(random));
+        let algorithm = random.within(1..=3);
+        [side, limit, size, algorithm].map(|number| mostly(random, number))
+    }
+}
+
+/// An execution buffer that is often too small.
+fn execution_buffer(random: &mut Random) -> Vec<u8> {
+    vec![0xEE; random.one_of(&[0, 1, 16, 40, 100, 1_000, 4_096, 5_000])]
+}
+
 /// One call by both, on copies of the same bytes. Leaves the book as they do.
 fn agree(random: &mut Random, shape: &Shape, book: &mut Vec<u8>) {
-    let known = book::read(book).unwrap_or_default();
-    let last = known.last().map_or(0, |order| order.number);
-    let any = known.get(random.below(known.len().max(1)));
-    let (number, size) = any.map_or((1, 1), |order| (order.number, order.size));
+    let known = Known::of(random, book);
     let mut fast_book = book.clone();
     match random.weighted(&[1, 2, 3, 3, 6]) {
         0 => assert_eq!(model::check(book), fast::check(book)),
         1 => {
-            let number = mostly(random, number);
+            let number = known.find(random);
             assert_eq!(model::find(book, number), fast::find(book, number));
         }
         2 => {
-            let order = shape.order(random, last.saturating_add(1));
-            let [side, kind, number, price, size, minimum] = order.map(|n| mostly(random, n));
+            let [side, kind, number, price, size, minimum] = known.add(random, shape);
             let plain = model::add(book, side, kind, number, price, size, minimum);
             let fast = fast::add(&mut fast_book, side, kind, number, price, size, minimum);
             assert_eq!(plain, fast);
         }
         3 => {
-            let shares = random.one_of(&[1, size, size / 2 + 1, size + 1]);
-            let (number, shares) = (mostly(random, number), mostly(random, shares));
+            let [number, shares] = known.reduce(random);
             let plain = model::reduce(book, number, shares);
             assert_eq!(plain, fast::reduce(&mut fast_book, number, shares));
         }
-        _ => agree_on_take(random, shape, book, &mut fast_book),
+        _ => {
+            let [side, limit, size, algorithm] = known.take(random, shape);
+            let mut buffer = execution_buffer(random);
+            let mut fast_buffer = buffer.clone();
+            let fast = &mut fast_book;
+            let plain = model::take(book, &mut buffer, side, limit, size, algorithm);
+            let fast = fast::take(fast, &mut fast_buffer, side, limit, size, algorithm);
+            assert_eq!(plain, fast, "{side} {limit} {size} {algorithm}");
+            assert_eq!(buffer, fast_buffer);
+        }
     }
     assert_eq!(*book, fast_book);
 }
 
-fn agree_on_take(random: &mut Random, shape: &Shape, book: &mut [u8], fast_book: &mut [u8]) {
-    let total: u32 = book::read(book)
-        .unwrap_or_default()
-        .iter()
-        .map(|order| order.size)
-        .sum();
-    let part = random.within(1..=total.clamp(1, LARGEST_SIZE));
-    let size = random.one_of(&[part, part / 2 + 1, part / 8 + 1, shape.largest, 99]);
-    let numbers = [random.within(1..=2), shape.price(random), size];
-    let [side, limit, size] = numbers.map(|number| mostly(random, number));
-    let algorithm = random.within(1..=3);
-    let algorithm = mostly(random, algorithm);
-    let room = random.one_of(&[0, 1, 16, 40, 100, 1_000, 4_096, 5_000]);
-    let mut plain_executions = vec![0xEE; room];
-    let mut fast_executions = plain_executions.clone();
-    let plain = model::take(book, &mut plain_executions, side, limit, size, algorithm);
-    let fast = fast::take(
-        fast_book,
-        &mut fast_executions,
-        side,
-        limit,
-        size,
-        algorithm,
-    );
-    assert_eq!(plain, fast, "{side} {limit} {size} {algorithm}");
-    assert_eq!(plain_executions, fast_executions);
+/// The three buffers of a take that keeps a ladder.
+#[derive(Clone, PartialEq)]
+struct Lent {
+    book: Vec<u8>,
+    executions: Vec<u8>,
+    ladder: Vec<u8>,
+}
+
+#[derive(Clone, Copy, Debug)]
+enum Form {
+    New,
+    Add([u32; 6]),
+    Reduce([u32; 2]),
+    Take([u32; 4]),
+}
+
+impl Form {
+    fn random(random: &mut Random, shape: &Shape, book: &[u8]) -> Form {
+        let known = Known::of(random, book);
+        match random.weighted(&[1, 3, 3, 4]) {
+            0 => Form::New,
+            1 => Form::Add(known.add(random, shape)),
+            2 => Form::Reduce(known.reduce(random)),
+            _ => Form::Take(known.take(random, shape)),
+        }
+    }
+
+    /// What the plain model answers.
+    fn plain(self, lent: &mut Lent) -> (u32, u32, u32) {
+        let Lent {
+            book,
+            executions,
+            ladder,
+        } = lent;
+        match self {
+            Form::New => (model::ladder(book, ladder), 0, 0),
+            Form::Add(order) => (model::add_ladder(book, ladder, order), 0, 0),
+            Form::Reduce([number, shares]) => {
+                (model::reduce_ladder(book, ladder, number, shares), 0, 0)
+            }
+            Form::Take(incoming) => model::take_ladder(book, executions, ladder, incoming),
+        }
+    }
+
+    /// What the fast model answers.
+    fn fast(self, lent: &mut Lent) -> (u32, u32, u32) {
+        let (book, ladder) = (&mut lent.book[..], &mut lent.ladder[..]);
+        match self {
+            Form::New => (fast::ladder(book, ladder), 0, 0),
+            Form::Add(order) => (fast::add_ladder(book, ladder, order), 0, 0),
+            Form::Reduce([number, shares]) => {
+                (fast::reduce_ladder(book, ladder, number, shares), 0, 0)
+            }
+            Form::Take(incoming) => fast::take_ladder(book, &mut lent.executions, ladder, incoming),
+        }
+    }
+}
+
+/// One call with a ladder by both. Leaves the buffers as they do, and gives the
+/// refusal number.
+fn agree_with_ladder(form: Form, lent: &mut Lent) -> u32 {
+    let mut fast_lent = lent.clone();
+    let plain = form.plain(lent);
+    assert_eq!(plain, form.fast(&mut fast_lent), "{form:?}");
+    assert!(*lent == fast_lent, "{form:?}: the bytes differ");
+    plain.0
+}
+
+/// The ladder of a book, or zeros beside an unsound one.
+fn new_ladder(book: &[u8]) -> Vec<u8> {
+    let mut ladder = vec![0; LADDER_LENGTH];
+    model::ladder(book, &mut ladder);
+    ladder
+}
+
+/// Makes a ladder another one, or one of another length.
+fn spoil_ladder(random: &mut Random, ladder: &mut Vec<u8>) {
+    let rows = ladder.chunks(ROW_LENGTH).filter(|row| row[0] != 0).count();
+    let near = random.below((rows + 1).min(256) * ROW_LENGTH);
+    match random.below(6) {
+        0 => ladder.resize(random.one_of(&[0, 24, 6_120, 6_143, 6_145, 6_168]), 0),
+        1 => random.fill(ladder),
+        2 => ladder[random.below(LADDER_LENGTH)] ^= 1,
+        _ => ladder[near] ^= random.one_of(&[1, 2, 0x80]),
+    }
 }
 
 /// So many books of a seed, and a row of calls on each.
@@ -186,6 +299,91 @@ fn agree_on_books(stream: u64, books: u32, spoilt: bool) {
         }
         for _ in 0..6 {
             agree(&mut random, &shape, &mut book);
+        }
+    }
+}
+
+/// So many books of a seed, each with a row of calls that keep its ladder, some of
+/// which are lent another one.
+fn agree_on_ladders(stream: u64, books: u32, spoilt: bool) {
+    let mut random = Random::new(SEED, stream);
+    for _ in 0..books {
+        let shape = Shape::random(&mut random);
+        let records = random.one_of(&[0, 1, 5, 16, 17, 64, 65, MOST_ORDERS]);
+        let free = random.one_of(&[0, 1, records / 2, records]);
+        let mut book = shape.book(&mut random, records, free);
+        if spoilt {
+            damage(&mut random, &mut book);
+        }
+        let mut lent = Lent {
+            ladder: new_ladder(&book),
+            executions: Vec::new(),
+            book,
+        };
+        for _ in 0..6 {
+            let form = Form::random(&mut random, &shape, &lent.book);
+            lent.executions = execution_buffer(&mut random);
+            if random.once_in(5) {
+                let mut wrong = lent.clone();
+                spoil_ladder(&mut random, &mut wrong.ladder);
+                agree_with_ladder(form, &mut wrong);
+            }
+            agree_with_ladder(form, &mut lent);
+        }
+    }
+}
+
+#[test]
+fn fast_and_plain_keep_ladders_of_sound_books() {
+    agree_on_ladders(4, 2_000, false);
+}
+
+#[test]
+fn fast_and_plain_keep_ladders_of_damaged_books() {
+    agree_on_ladders(5, 2_000, true);
+}
+
+/// A full book whose orders have so many prices, and its ladder: of one side, or
+/// buys and sells by turns, in no order.
+fn full_ladder(levels: u32, sides: [u32; 2]) -> Lent {
+    let orders: Vec<Order> = (0..MOST_ORDERS as u32)
+        .map(|place| {
+            let side = sides[place as usize % 2];
+            let price = 100_000 + place * 161 % levels;
+            let (kind, minimum) = [(1, 0), (2, 0), (3, 40)][place as usize % 3];
+            Order::of_numbers(side, kind, place + 1, price, 100 + place, minimum)
+                .expect("numbers within their ranges")
+        })
+        .collect();
+    let mut book = vec![0; LONGEST_BOOK];
+    book::write(&mut book, &orders);
+    Lent {
+        ladder: new_ladder(&book),
+        executions: vec![0xEE; 4_096],
+        book,
+    }
+}
+
+/// Every row leaves and comes again, and takes go through them up to the last.
+#[test]
+fn fast_and_plain_keep_full_ladders() {
+    for levels in [1, 3, 256] {
+        for sides in [[1, 1], [2, 2], [1, 2]] {
+            let full = full_ladder(levels, sides);
+            for place in 0..MOST_ORDERS as u32 {
+                let mut lent = full.clone();
+                let [number, size] = [place + 1, 100 + place];
+                let reduce = Form::Reduce([number, size]);
+                assert_eq!(agree_with_ladder(reduce, &mut lent), 0);
+                let price = 100_000 + place * 161 % levels;
+                let add = Form::Add([sides[place as usize % 2], 2, 300, price, 50, 0]);
+                agree_with_ladder(add, &mut lent);
+                let taker = 3 - sides[place as usize % 2];
+                let limit = [100_300, 1][taker as usize - 1];
+                let shares = place * 217 + 1;
+                let take = Form::Take([taker, limit, shares, place % 3 + 1]);
+                assert_eq!(agree_with_ladder(take, &mut lent), 0);
+            }
         }
     }
 }

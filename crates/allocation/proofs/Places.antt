@@ -1,4 +1,4 @@
--- What stands at a place of a list, and totals over what stands before it.
+-- Totals over what stands before a place of a list.
 use Prim.Native.Nat.{ℕ, zero, suc, _+_, _≤_, _<_}
 use mathlib.Core.Path.{_≡_, ap, _∙_}
 use mathlib.Core.List.{List, [], _∷_}
@@ -6,13 +6,6 @@ use native.Mathlib.Omega.{arith}
 use native.Mathlib.Numerals.{add-one}
 use lib.ListN.{length, getD, take}
 use Rattle.units.specs.Lists.{sum, total}
-use Rattle.units.proofs.Members.{Every}
-
--- what holds of every element holds of the one at a place
-pub every-at : (P : ℕ → Type 0) (xs : List ℕ) → Every P xs → (k : ℕ) → k < length xs → P (getD xs k 0)
-every-at P [] e k h = absurd (omega arith)
-every-at P (x ∷ xs) e zero h = e .0
-every-at P (x ∷ xs) e (suc k) h = every-at P xs (e .1) k (omega arith)
 
 -- one element more
 pub total-next : (f : ℕ → ℕ) (xs : List ℕ) (k : ℕ) → k < length xs → total f (take (k + 1) xs) ≡ total f (take k xs) + f (getD xs k 0)

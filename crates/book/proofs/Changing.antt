@@ -7,8 +7,8 @@ use lib.ListN.{length}
 use Rattle.orders.specs.declared.order.Order.{Order}
 use Rattle.book.specs.Sound.{sound, ordersOf, bookOf, capacityOf}
 use Rattle.book.specs.Refusal.{changedUnless}
-use Rattle.book.proofs.Soundness.{OrdersSound, capacity-most, capacity-bytes}
-use Rattle.book.proofs.Books.{length-book, orders-book, sound-book}
+use Rattle.book.proofs.Soundness.{OrdersSound, capacity-most}
+use Rattle.book.proofs.Books.{orders-book, sound-book}
 use Rattle.book.proofs.Refusing.{book-accepted}
 
 module _ (r : ℕ) (s : List ℕ) (os : List Order) (e : r ≡ 0) (b : sound s ≡ true) (h : OrdersSound os) (fit : length os ≤ capacityOf s) where
@@ -22,7 +22,3 @@ module _ (r : ℕ) (s : List ℕ) (os : List Order) (e : r ≡ 0) (b : sound s �
   -- it is sound
   pub changed-sound : sound (changedUnless r s (bookOf (capacityOf s) os) .book) ≡ true
   changed-sound = ap sound after ∙ sound-book (capacityOf s) os fit h (capacity-most s b)
-
-  -- it is as long as before
-  pub changed-length : length (changedUnless r s (bookOf (capacityOf s) os) .book) ≡ length s
-  changed-length = ap length after ∙ length-book (capacityOf s) os fit ∙ capacity-bytes s b

@@ -21,7 +21,7 @@ use Rattle.book.specs.Sound.{sameSetter, sound, ordersOf, capacityOf}
 use Rattle.book.proofs.Soundness.{OrdersSound, orders-sound}
 use Rattle.book.proofs.Settlement.{append-sound}
 use Rattle.book.proofs.Refusing.{Accepted, accepted}
-use Rattle.book.proofs.Changing.{changed-orders, changed-sound, changed-length}
+use Rattle.book.proofs.Changing.{changed-sound}
 use Rattle.entry.proofs.Requests.{requested-sound}
 use Rattle.entry.specs.declared.admission.AddRequest.{AddRequest}
 use Rattle.entry.specs.Add.{requestInRange, requested, beats, setsPrice, isStale, addRefusals, added, addCall}
@@ -93,17 +93,7 @@ module _ (q : AddRequest) (s : List ℕ) (e : addCall q s .refusal ≡ 0) where
       let n = length-append (ordersOf s) (requested q (sets roundLot q (ordersOf s)) ∷ []) in
       omega (arith, leb-false (capacityOf s) (length (ordersOf s)) (add-accepted .ofBook .1 .1 .0))
 
-  -- the book has the new order last
-  pub add-orders : ordersOf (addCall q s .book) ≡ added roundLot q (ordersOf s)
-  unfolding addCall
-  add-orders = changed-orders (addCall q s .refusal) s (added roundLot q (ordersOf s)) e (add-accepted .book) add-orders-sound room
-
   -- the book is sound
   pub add-sound : sound (addCall q s .book) ≡ true
   unfolding addCall
   add-sound = changed-sound (addCall q s .refusal) s (added roundLot q (ordersOf s)) e (add-accepted .book) add-orders-sound room
-
-  -- the book is as long as before
-  pub add-length : length (addCall q s .book) ≡ length s
-  unfolding addCall
-  add-length = changed-length (addCall q s .refusal) s (added roundLot q (ordersOf s)) e (add-accepted .book) add-orders-sound room

@@ -16,7 +16,7 @@ use Rattle.book.specs.Lookup.{hasNumber}
 use Rattle.book.proofs.Soundness.{OrdersSound, orders-sound, orders-fit}
 use Rattle.book.proofs.Settlement.{settle-sound, settle-fewer}
 use Rattle.book.proofs.Refusing.{Accepted, accepted}
-use Rattle.book.proofs.Changing.{changed-orders, changed-sound, changed-length}
+use Rattle.book.proofs.Changing.{changed-sound}
 use Rattle.entry.specs.Reduce.{reduceRefusals, reduction, reducedIf, reduced, reduceCall}
 
 module _ (n shares : ℕ) where
@@ -55,20 +55,8 @@ module _ (n shares : ℕ) where
     room : length (reduced n shares (ordersOf s)) ≤ capacityOf s
     room = omega (arith, ap length settling, settle-fewer (map reductionOf (ordersOf s)) (ordersOf s), orders-fit s)
 
-    -- the book has the orders with the named one reduced
-    pub reduce-orders : ordersOf (reduceCall n shares s .book) ≡ reduced n shares (ordersOf s)
-    unfolding reduceCall
-    reduce-orders =
-        changed-orders (reduceCall n shares s .refusal) s (reduced n shares (ordersOf s)) e (reduce-accepted .book) reduce-orders-sound room
-
     -- the book is sound
     pub reduce-sound : sound (reduceCall n shares s .book) ≡ true
     unfolding reduceCall
     reduce-sound =
         changed-sound (reduceCall n shares s .refusal) s (reduced n shares (ordersOf s)) e (reduce-accepted .book) reduce-orders-sound room
-
-    -- the book is as long as before
-    pub reduce-length : length (reduceCall n shares s .book) ≡ length s
-    unfolding reduceCall
-    reduce-length =
-        changed-length (reduceCall n shares s .refusal) s (reduced n shares (ordersOf s)) e (reduce-accepted .book) reduce-orders-sound room

@@ -40,6 +40,13 @@ pub fn check(book: &[u8]) -> Checked
     }
 }
 
+// How many orders the book has.
+pub fn count(book: &[u8]) -> usize
+    ensures { λ r. ⌜ r ≡ length (ordersOf (now (book .entry))) ⌝ }
+{
+    sound::count_occupied(book)
+}
+
 // A refused find's answer.
 fn not_found(refusal: u32) -> Found
     ensures { λ r. ⌜ r ≡ record { refusal = refusal; start = 0; length = 0 } ⌝ }

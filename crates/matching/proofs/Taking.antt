@@ -15,7 +15,7 @@ use Rattle.book.specs.Sound.{sound, ordersOf, capacityOf}
 use Rattle.book.proofs.Soundness.{OrdersSound, orders-fit, orders-sound}
 use Rattle.book.proofs.Settlement.{settle-sound, settle-fewer}
 use Rattle.book.proofs.Refusing.{Accepted, accepted}
-use Rattle.book.proofs.Changing.{changed-orders, changed-sound, changed-length}
+use Rattle.book.proofs.Changing.{changed-orders, changed-sound}
 use Rattle.orders.specs.declared.order.Order.{Order}
 use Rattle.orders.specs.Order.{priceInRange, sharesInRange}
 use Rattle.record.specs.Execution.{executionBytes, executionsIn}
@@ -70,11 +70,6 @@ module _ (q : TakeRequest) (s x : List ℕ) (e : takeCall q s x .taken .refusal 
   pub take-sound : sound (takeCall q s x .book) ≡ true
   unfolding takeCall
   take-sound = changed-sound (takeCall q s x .taken .refusal) s (out .orders) e (call .book) orders-left room
-
-  -- it is as long as before
-  pub take-length : length (takeCall q s x .book) ≡ length s
-  unfolding takeCall
-  take-length = changed-length (takeCall q s x .taken .refusal) s (out .orders) e (call .book) orders-left room
 
   accepts : eqb (takeCall q s x .taken .refusal) 0 ≡ true
   accepts = eq-eqb (takeCall q s x .taken .refusal) 0 e

@@ -7,3 +7,4 @@ pub mod Settling
 pub mod Executions
 pub mod Reading
 pub mod Pasting
+pub mod Filling

@@ -1,5 +1,5 @@
 -- Orders as rows of numbers, both ways.
-use Prim.Native.Nat.{ℕ, zero, suc, _+_}
+use Prim.Native.Nat.{ℕ, zero, suc, _+_, _%_}
 use mathlib.Core.Path.{_≡_, refl, sym, ap, _∙_}
 use mathlib.Core.Bool.{Bool, true, false, _&&_, _||_, false≢true}
 use mathlib.Core.List.{List, [], _∷_}
@@ -21,9 +21,14 @@ use Rattle.orders.specs.Order.{numberInRange, priceInRange, sharesInRange, mini
 use Rattle.record.specs.Record.{numbersOf, orderOf, numbersSound}
 
 -- a side and a kind are read back from their numbers
-side-of : (s : Side) → sideOf (sideNumber s) ≡ s
+pub side-of : (s : Side) → sideOf (sideNumber s) ≡ s
 side-of Buy = refl
 side-of Sell = refl
+
+-- the number of a side is a byte
+pub side-byte : (s : Side) → sideNumber s % 256 ≡ sideNumber s
+side-byte Buy = refl
+side-byte Sell = refl
 
 kind-of : (k : Kind) → kindOf (kindNumber k) (minimumOf k) ≡ k
 kind-of Displayed = refl

@@ -1,8 +1,8 @@
-// Bytes: numbers read from them, zeros, and bytes put in the place of others.
+// Bytes: numbers in them, zeros, bytes compared, and bytes put in the place of others.
 ghost use mathlib.Core.Path.{_≡_};
 ghost use Prim.Native.Nat.{_+_, _≤_, _<_};
-ghost use lib.ListN.{length, take, drop};
-ghost use Rattle.units.specs.Lists.{all, isZero};
+ghost use lib.ListN.{length, take, drop, replicate};
+ghost use Rattle.units.specs.Lists.{all, isZero, sameNumbers};
 ghost use Rattle.record.specs.Codec.{toBytes, fromBytes, replaced};
 
 // A byte, as wide as the numbers that are made of bytes.
@@ -25,7 +25,7 @@ pub fn read_u32(s: &[u8], at: usize) -> u32
 }
 
 // The four bytes of a number.
-pub(crate) fn u32_bytes(n: u32) -> [u8; 4]
+pub fn u32_bytes(n: u32) -> [u8; 4]
     ensures { λ r. ⌜ r ≡ toBytes 4 n ⌝ }
 {
     [
@@ -36,17 +36,34 @@ pub(crate) fn u32_bytes(n: u32) -> [u8; 4]
     ]
 }
 
-// Whether every byte of s is zero.
+// Whether every byte of s is zero: the highest is.
 pub fn zeros(s: &[u8]) -> bool
     ensures { λ r. ⌜ r ≡ all isZero (now (s .entry)) ⌝ }
 {
-    let mut clear = true;
+    let mut highest = 0;
     let mut i = 0;
     while i < s.len() {
-        clear = clear & (s[i] == 0);
+        let b = s[i];
+        highest = if highest < b { b } else { highest };
         i += 1;
     }
-    clear
+    highest == 0
+}
+
+// Whether a and b are the same bytes.
+pub fn same(a: &[u8], b: &[u8]) -> bool
+    ensures { λ r. ⌜ r ≡ sameNumbers (now (a .entry)) (now (b .entry)) ⌝ }
+{
+    if a.len() != b.len() {
+        return false;
+    }
+    let mut equal = true;
+    let mut i = 0;
+    while i < a.len() {
+        equal = equal & (a[i] == b[i]);
+        i += 1;
+    }
+    equal
 }
 
 // The bytes of src go into dst from at on.
@@ -57,6 +74,18 @@ pub fn put(dst: &mut [u8], at: usize, src: &[u8])
     let mut i = 0;
     while i < src.len() {
         dst[at + i] = src[i];
+        i += 1;
+    }
+}
+
+// Zeros go where so many bytes of dst from at on were.
+pub fn clear(dst: &mut [u8], at: usize, count: usize)
+    requires { ⌜ at + count ≤ length (now dst) ⌝ }
+    ensures { λ _. ⌜ now (dst .exit) ≡ replaced at (replicate count 0) (now (dst .entry)) ⌝ }
+{
+    let mut i = 0;
+    while i < count {
+        dst[at + i] = 0;
         i += 1;
     }
 }

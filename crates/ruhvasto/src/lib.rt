@@ -1,4 +1,4 @@
-// The five calls under the names and in the shapes that C has (include/ruhvasto.h), and the version of that interface.
+// The calls under the names and in the shapes that C has (include/ruhvasto.h), and the version of that interface.
 use book::Checked;
 use book::Found;
 use entry::admission::AddRequest;
@@ -9,18 +9,21 @@ ghost use mathlib.Core.Bool.{true};
 ghost use Prim.Native.Nat.{_+_, _≤_};
 ghost use lib.ListN.{length};
 ghost use Rattle.book.specs.Lookup.{checkCall, findCall};
-ghost use Rattle.book.specs.Sound.{sound};
+ghost use Rattle.book.specs.Sound.{sound, ordersOf};
 ghost use Rattle.entry.specs.Add.{addCall};
 ghost use Rattle.entry.specs.Reduce.{reduceCall};
 ghost use Rattle.matching.specs.TakeCall.{takeCall};
 ghost use Rattle.matching.specs.Fairness.{FairTake};
+ghost use Rattle.ladder.specs.Ladder.{madeOf, ladderCall, addLadderCall, reduceLadderCall, takeLadderCall};
+ghost use Rattle.ladder.specs.Rows.{rowsOf};
+ghost use Rattle.ladder.specs.Depth.{Tells};
 
 // The version of the interface, as the header's RUHVASTO_VERSION.
 #[no_mangle]
 pub extern "C" fn ruhvasto_version() -> u32
-    ensures { λ r. ⌜ r ≡ 3 ⌝ }
+    ensures { λ r. ⌜ r ≡ 4 ⌝ }
 {
-    3
+    4
 }
 
 // Whether the book is sound, and how many orders it has.
@@ -74,4 +77,78 @@ pub extern "C" fn ruhvasto_take(
     ensures kept_sound { λ r. ⌜ (r .refusal ≡ 0 → sound (now (book .exit)) ≡ true) ⌝ }
 {
     take::take(book, executions, request)
+}
+
+// The ladder of the book, all its bytes, whatever stood there.
+#[no_mangle]
+pub extern "C" fn ruhvasto_ladder(book: &[u8], ladder: &mut [u8]) -> u32
+    ensures refused { λ r. ⌜ r ≡ ladderCall (now (book .entry)) (now (ladder .entry)) .refusal ⌝ }
+    ensures ladder_bytes { λ r. ⌜ now (ladder .exit) ≡ ladderCall (now (book .entry)) (now (ladder .entry)) .ladder ⌝ }
+    ensures tells { λ r. ⌜ (r ≡ 0 → Tells (ordersOf (now (book .entry))) (now (ladder .exit)) (rowsOf (ordersOf (now (book .entry))))) ⌝ }
+{
+    ladder::ladder(book, ladder)
+}
+
+// An order is put last in the book, and the ladder is kept.
+#[no_mangle]
+pub extern "C" fn ruhvasto_add_ladder(
+    book: &mut [u8],
+    ladder: &mut [u8],
+    request: AddRequest,
+) -> u32
+    ensures refused { λ r. ⌜ r ≡ addLadderCall request (now (book .entry)) (now (ladder .entry)) .refusal ⌝ }
+    ensures bytes { λ r. ⌜ now (book .exit) ≡ addLadderCall request (now (book .entry)) (now (ladder .entry)) .book ⌝ }
+    ensures ladder_bytes { λ r. ⌜ now (ladder .exit) ≡ addLadderCall request (now (book .entry)) (now (ladder .entry)) .ladder ⌝ }
+    ensures kept_sound { λ r. ⌜ (r ≡ 0 → sound (now (book .exit)) ≡ true) ⌝ }
+    ensures kept_ladder { λ r. ⌜ (r ≡ 0 → now (ladder .exit) ≡ madeOf (now (book .exit))) ⌝ }
+    ensures unchanged { λ r. ⌜ ((r ≡ 0 → ⊥) → (now (book .exit) ≡ now (book .entry)) × (now (ladder .exit) ≡ now (ladder .entry))) ⌝ }
+    ensures as_plain { λ r. ⌜ (now (ladder .entry) ≡ madeOf (now (book .entry))
+        → (r ≡ addCall request (now (book .entry)) .refusal) × (now (book .exit) ≡ addCall request (now (book .entry)) .book)) ⌝ }
+{
+    ladder::add(book, ladder, request)
+}
+
+// The order of this number loses shares, and the ladder is kept.
+#[no_mangle]
+pub extern "C" fn ruhvasto_reduce_ladder(
+    book: &mut [u8],
+    ladder: &mut [u8],
+    number: u32,
+    shares: u32,
+) -> u32
+    ensures refused { λ r. ⌜ r ≡ reduceLadderCall number shares (now (book .entry)) (now (ladder .entry)) .refusal ⌝ }
+    ensures bytes { λ r. ⌜ now (book .exit) ≡ reduceLadderCall number shares (now (book .entry)) (now (ladder .entry)) .book ⌝ }
+    ensures ladder_bytes { λ r. ⌜ now (ladder .exit) ≡ reduceLadderCall number shares (now (book .entry)) (now (ladder .entry)) .ladder ⌝ }
+    ensures kept_sound { λ r. ⌜ (r ≡ 0 → sound (now (book .exit)) ≡ true) ⌝ }
+    ensures kept_ladder { λ r. ⌜ (r ≡ 0 → now (ladder .exit) ≡ madeOf (now (book .exit))) ⌝ }
+    ensures unchanged { λ r. ⌜ ((r ≡ 0 → ⊥) → (now (book .exit) ≡ now (book .entry)) × (now (ladder .exit) ≡ now (ladder .entry))) ⌝ }
+    ensures as_plain { λ r. ⌜ (now (ladder .entry) ≡ madeOf (now (book .entry))
+        → (r ≡ reduceCall number shares (now (book .entry)) .refusal) × (now (book .exit) ≡ reduceCall number shares (now (book .entry)) .book)) ⌝ }
+{
+    ladder::reduce(book, ladder, number, shares)
+}
+
+// An incoming order takes shares from the orders of the book, and the ladder is kept.
+#[no_mangle]
+pub extern "C" fn ruhvasto_take_ladder(
+    book: &mut [u8],
+    executions: &mut [u8],
+    ladder: &mut [u8],
+    request: TakeRequest,
+) -> Taken
+    ensures taken { λ r. ⌜ r ≡ takeLadderCall request (now (book .entry)) (now (executions .entry)) (now (ladder .entry)) .taken ⌝ }
+    ensures book_bytes { λ r. ⌜ now (book .exit) ≡ takeLadderCall request (now (book .entry)) (now (executions .entry)) (now (ladder .entry)) .book ⌝ }
+    ensures execution_bytes { λ r. ⌜ now (executions .exit) ≡ takeLadderCall request (now (book .entry)) (now (executions .entry)) (now (ladder .entry)) .executions ⌝ }
+    ensures ladder_bytes { λ r. ⌜ now (ladder .exit) ≡ takeLadderCall request (now (book .entry)) (now (executions .entry)) (now (ladder .entry)) .ladder ⌝ }
+    ensures fair { λ r. ⌜ FairTake request (now (book .entry)) (record { taken = r; book = now (book .exit); executions = now (executions .exit) }) ⌝ }
+    ensures kept_sound { λ r. ⌜ (r .refusal ≡ 0 → sound (now (book .exit)) ≡ true) ⌝ }
+    ensures kept_ladder { λ r. ⌜ (r .refusal ≡ 0 → now (ladder .exit) ≡ madeOf (now (book .exit))) ⌝ }
+    ensures unchanged { λ r. ⌜ ((r .refusal ≡ 0 → ⊥)
+        → (now (book .exit) ≡ now (book .entry)) × (now (executions .exit) ≡ now (executions .entry)) × (now (ladder .exit) ≡ now (ladder .entry))) ⌝ }
+    ensures as_plain { λ r. ⌜ (now (ladder .entry) ≡ madeOf (now (book .entry))
+        → (r ≡ takeCall request (now (book .entry)) (now (executions .entry)) .taken)
+        × (now (book .exit) ≡ takeCall request (now (book .entry)) (now (executions .entry)) .book)
+        × (now (executions .exit) ≡ takeCall request (now (book .entry)) (now (executions .entry)) .executions)) ⌝ }
+{
+    ladder::take(book, executions, ladder, request)
 }

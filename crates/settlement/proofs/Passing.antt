@@ -28,7 +28,7 @@ use Rattle.book.proofs.Books.{length-order, length-orders}
 use Rattle.book.proofs.Checking.{sound-fits}
 use Rattle.book.proofs.Restoring.{book-orders}
 use Rattle.book.proofs.Access.{order-get, order-at-sound, record-here}
-use Rattle.settlement.proofs.Filling.{Filled, filled-none, filled-same, filled-more, filled-done}
+use Rattle.record.proofs.Filling.{Filled, filled-none, filled-same, filled-more, filled-done}
 
 -- of the first i orders, those that still rest
 abbrev restingTo : List ℕ → List ℕ → List Order → ℕ → List Order

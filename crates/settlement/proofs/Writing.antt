@@ -18,7 +18,7 @@ use Rattle.record.proofs.Executions.{length-execution}
 use Rattle.matching.specs.TakeCall.{written}
 use Rattle.parts.specs.Key.{groupIn, paragraphIn, placeIn, sharesIn}
 use Rattle.allocation.specs.Walk.{executionOf}
-use Rattle.settlement.proofs.Filling.{Filled, filled-none, filled-more, filled-done}
+use Rattle.record.proofs.Filling.{Filled, filled-none, filled-more, filled-done}
 
 -- an execution, as its numbers were read
 pub execution-is : (at : ℕ → Order) (fill : ℕ) {o : Order} {g : ℕ} {s : Shares} → o ≡ at (placeIn fill) → g ≡ paragraphIn (groupIn fill)

@@ -3,28 +3,16 @@ pub mod executions;
 
 use book::records;
 use book::records::RECORD_BYTES;
+use record::bytes;
 use units::Shares;
 ghost use mathlib.Core.Path.{_≡_};
 ghost use mathlib.Core.Bool.{true};
-ghost use Prim.Native.Nat.{_+_, _*_, _≤_};
-ghost use lib.ListN.{length, replicate};
+ghost use Prim.Native.Nat.{_≤_};
+ghost use lib.ListN.{length};
 ghost use Rattle.units.specs.Lists.{filter, zipWith};
 ghost use Rattle.orders.specs.Order.{settled, isResting};
 ghost use Rattle.orders.specs.Losses.{lossesIn};
-ghost use Rattle.record.specs.Codec.{replaced};
 ghost use Rattle.book.specs.Sound.{sound, ordersOf, bookOf, capacityOf};
-
-// Zeros go where so many bytes from a place on were.
-fn clear(book: &mut [u8], at: usize, count: usize)
-    requires { ⌜ at + count ≤ length (now book) ⌝ }
-    ensures { λ _. ⌜ now (book .exit) ≡ replaced at (replicate count 0) (now (book .entry)) ⌝ }
-{
-    let mut i = 0;
-    while i < count {
-        book[at + i] = 0;
-        i += 1;
-    }
-}
 
 // Each of the n orders loses its shares. The orders that still rest move up in one pass, with zeros behind. A record that loses nothing and
 // stands in its place is not written.
@@ -52,5 +40,5 @@ pub fn settle(book: &mut [u8], n: usize, shown: &[u32], hidden: &[u32])
         }
         i += 1;
     }
-    clear(book, RECORD_BYTES * kept, RECORD_BYTES * (n - kept));
+    bytes::clear(book, RECORD_BYTES * kept, RECORD_BYTES * (n - kept));
 }

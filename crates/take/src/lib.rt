@@ -45,7 +45,7 @@ fn incoming_of(q: TakeRequest) -> Incoming
 }
 
 // A refused take's answer.
-fn refused(refusal: u32) -> Taken
+pub fn refused(refusal: u32) -> Taken
     ensures { λ r. ⌜ r ≡ record { refusal = refusal; count = 0; left = 0 } ⌝ }
 {
     Taken {

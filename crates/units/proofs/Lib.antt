@@ -3,3 +3,4 @@ pub mod Totals
 pub mod Members
 pub mod Facts
 pub mod Scanning
+pub mod Columns

@@ -1,7 +1,10 @@
 -- What holds of every element of a list, and tests over lists as facts about members.
+use Prim.Native.Nat.{ℕ, zero, suc, _<_}
 use mathlib.Core.Path.{_≡_, refl, sym, ap, _∙_, subst⁻¹}
 use mathlib.Core.Bool.{Bool, true, false, _&&_, _||_, and-assoc, true≢false, false≢true}
 use mathlib.Core.List.{List, [], _∷_, _++_, List·Memᴰ, List·Memᴰ·head, List·Memᴰ·tail, List·Memᴰ·not-nil}
+use native.Mathlib.Omega.{arith}
+use lib.ListN.{length, getD}
 use Rattle.units.specs.Lists.{all, any, filter, consIf, flatMap}
 use Rattle.units.proofs.Tests.{and-true, or-false, or-true}
 
@@ -95,6 +98,12 @@ module _ {A : Type 0} where
   pub filter-none : (p : A → Bool) (xs : List A) → Every (λ x. p x ≡ false) xs → filter p xs ≡ []
   filter-none p [] h = refl
   filter-none p (x ∷ xs) h = rw (h .0) (filter-none p xs (h .1))
+
+-- what holds of every number holds of the one at a place
+pub every-at : (P : ℕ → Type 0) (xs : List ℕ) → Every P xs → (k : ℕ) → k < length xs → P (getD xs k 0)
+every-at P [] e k h = absurd (omega arith)
+every-at P (x ∷ xs) e zero h = e .0
+every-at P (x ∷ xs) e (suc k) h = every-at P xs (e .1) k (omega arith)
 
 module _ {A B : Type 0} where
   -- of lists one behind another

@@ -1,5 +1,6 @@
-//! Check, find, add and reduce.
+//! Check, find, add and reduce, the last two also with a ladder.
 
+use super::beside::{Beside, Ladder, Nothing};
 use super::record::{self, Bytes, Record};
 use super::soundness::sound;
 use super::taker::Taker;
@@ -17,7 +18,7 @@ pub fn check(book: &[u8]) -> (u32, u32) {
 /// The refusal number, and where the order's own bytes start in the book and
 /// how many they are.
 pub fn find(book: &[u8], number: u32) -> (u32, usize, usize) {
-    match place_of(book, number) {
+    match place_of(book, number, &mut Nothing) {
         Ok((place, _)) => (0, place * RECORD_LENGTH, RECORD_LENGTH),
         Err(refusal) => (refusal as u32, 0, 0),
     }
@@ -33,36 +34,55 @@ pub fn add(
     size: u32,
     minimum: u32,
 ) -> u32 {
-    Order::of_numbers(side, kind, number, price, size, minimum)
-        .ok_or(Refusal::OutOfRange)
-        .and_then(|order| enter(book, order))
-        .map_or_else(|refusal| refusal as u32, |()| 0)
+    let order = [side, kind, number, price, size, minimum];
+    refusal_of(enter(book, order, Nothing))
+}
+
+/// Add that keeps the ladder.
+pub fn add_ladder(book: &mut [u8], ladder: &mut [u8], order: [u32; 6]) -> u32 {
+    refusal_of(enter(book, order, Ladder::of(ladder)))
 }
 
 /// Takes shares from an order. Gives the refusal number.
 pub fn reduce(book: &mut [u8], number: u32, shares: u32) -> u32 {
-    lessen(book, number, shares).map_or_else(|refusal| refusal as u32, |()| 0)
+    refusal_of(lessen(book, number, shares, Nothing))
+}
+
+/// Reduce that keeps the ladder.
+pub fn reduce_ladder(book: &mut [u8], ladder: &mut [u8], number: u32, shares: u32) -> u32 {
+    refusal_of(lessen(book, number, shares, Ladder::of(ladder)))
+}
+
+/// 0 for an accepted call.
+pub fn refusal_of(outcome: Result<(), Refusal>) -> u32 {
+    outcome.map_or_else(|refusal| refusal as u32, |()| 0)
 }
 
 /// The place of the order with this number, and how many orders there are.
-fn place_of(book: &[u8], number: u32) -> Result<(usize, usize), Refusal> {
+fn place_of(book: &[u8], number: u32, beside: &mut impl Beside) -> Result<(usize, usize), Refusal> {
     if number == 0 {
         return Err(Refusal::OutOfRange);
     }
     let orders = sound(book)?.orders;
     let records = &book.as_chunks().0[..orders];
+    beside.fits(records)?;
     match records.binary_search_by_key(&number, record::number_of) {
         Ok(place) => Ok((place, orders)),
         Err(_) => Err(Refusal::NoSuchOrder),
     }
 }
 
-fn enter(book: &mut [u8], order: Order) -> Result<(), Refusal> {
+fn enter(book: &mut [u8], order: [u32; 6], mut beside: impl Beside) -> Result<(), Refusal> {
+    let [side, kind, number, price, size, minimum] = order;
+    let order = Order::of_numbers(side, kind, number, price, size, minimum);
+    let order = order.ok_or(Refusal::OutOfRange)?;
     let taker = Taker::new(order.side, order.price, order.size);
     let sound = sound(book)?;
+    let orders: &[Bytes] = &book.as_chunks().0[..sound.orders];
+    beside.fits(orders)?;
     let mut could_trade = false;
     let mut rivalled = false;
-    for record in book.as_chunks().0[..sound.orders].iter().map(Record::of) {
+    for record in orders.iter().map(Record::of) {
         could_trade |= taker.may_trade_with(record);
         rivalled |= taker.is_rivalled_by(record);
     }
@@ -76,18 +96,25 @@ fn enter(book: &mut [u8], order: Order) -> Result<(), Refusal> {
     let free = records.get_mut(sound.orders).ok_or(Refusal::NoFreeRecord)?;
     let setter = order.is_displayed() && order.size >= ROUND_LOT && !rivalled;
     *free = Order { setter, ..order }.record();
+    beside.added(&order);
     Ok(())
 }
 
-fn lessen(book: &mut [u8], number: u32, shares: u32) -> Result<(), Refusal> {
+fn lessen(
+    book: &mut [u8],
+    number: u32,
+    shares: u32,
+    mut beside: impl Beside,
+) -> Result<(), Refusal> {
     if !book::size_in_range(shares) {
         return Err(Refusal::OutOfRange);
     }
-    let (place, orders) = place_of(book, number)?;
+    let (place, orders) = place_of(book, number, &mut beside)?;
     let records: &mut [Bytes] = book.as_chunks_mut().0;
     if shares > record::size_of(&records[place]) {
         return Err(Refusal::MoreThanOrderHas);
     }
+    beside.lessened(Record::of(&records[place]), shares);
     if record::lessen(&mut records[place], shares) == 0 {
         records.copy_within(place + 1..orders, place);
         records[orders - 1].fill(0);

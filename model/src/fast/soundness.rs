@@ -39,19 +39,16 @@ pub fn sound(book: &[u8]) -> Result<Sound, Refusal> {
         sound.orders += 1;
     }
     let (orders, behind) = records.split_at(sound.orders);
-    if faults == 0 && all_zero(behind) && (marks.improve || marks_are_single(orders)) {
+    if faults == 0 && all_zero(behind.as_flattened()) && (marks.improve || marks_are_single(orders))
+    {
         Ok(sound)
     } else {
         Err(Refusal::UnsoundBook)
     }
 }
 
-fn all_zero(records: &[Bytes]) -> bool {
-    records
-        .as_flattened()
-        .iter()
-        .fold(0, |all, byte| all | byte)
-        == 0
+pub fn all_zero(bytes: &[u8]) -> bool {
+    bytes.iter().fold(0, |all, byte| all | byte) == 0
 }
 
 /// Whether the marked orders of a side come at ever better prices. In a book

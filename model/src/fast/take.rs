@@ -1,5 +1,6 @@
 //! Take: an incoming order executes against the other side of the book.
 
+use super::beside::{Beside, Ladder, Nothing};
 use super::fill::{group_end, keep, Fill};
 use super::record::{Bytes, Record};
 use super::settlement;
@@ -56,27 +57,52 @@ pub fn take(
     size: u32,
     algorithm: u32,
 ) -> (u32, u32, u32) {
-    let in_range = book::price_in_range(limit) && book::size_in_range(size);
-    let outcome = match (Side::of_number(side), Algorithm::of_number(algorithm)) {
-        (Some(side), Some(algorithm)) if in_range => {
-            execute(book, executions, Taker::new(side, limit, size), algorithm)
-        }
-        _ => Err(Refusal::OutOfRange),
-    };
+    numbers_of(execute(
+        book,
+        executions,
+        [side, limit, size, algorithm],
+        Nothing,
+    ))
+}
+
+/// Take that keeps the ladder.
+pub fn take_ladder(
+    book: &mut [u8],
+    executions: &mut [u8],
+    ladder: &mut [u8],
+    incoming: [u32; 4],
+) -> (u32, u32, u32) {
+    numbers_of(execute(book, executions, incoming, Ladder::of(ladder)))
+}
+
+fn numbers_of(outcome: Outcome) -> (u32, u32, u32) {
     match outcome {
         Ok((count, left)) => (0, count as u32, left),
         Err(refusal) => (refusal as u32, 0, 0),
     }
 }
 
-fn execute(book: &mut [u8], executions: &mut [u8], taker: Taker, algorithm: Algorithm) -> Outcome {
+fn execute(
+    book: &mut [u8],
+    executions: &mut [u8],
+    incoming: [u32; 4],
+    mut beside: impl Beside,
+) -> Outcome {
+    let [side, limit, size, algorithm] = incoming;
+    let side = Side::of_number(side).ok_or(Refusal::OutOfRange)?;
+    let algorithm = Algorithm::of_number(algorithm).ok_or(Refusal::OutOfRange)?;
+    if !book::price_in_range(limit) || !book::size_in_range(size) {
+        return Err(Refusal::OutOfRange);
+    }
+    let taker = Taker::new(side, limit, size);
     let orders = sound(book)?.orders;
     let records = &mut book.as_chunks_mut().0[..orders];
+    beside.fits(records)?;
     // Clearing room for a full book would cost more than a take of a few orders.
     match orders {
-        0..=16 => execute_within::<16>(records, executions, taker, algorithm),
-        17..=64 => execute_within::<64>(records, executions, taker, algorithm),
-        _ => execute_within::<MOST_ORDERS>(records, executions, taker, algorithm),
+        0..=16 => execute_within::<16>(records, executions, taker, algorithm, beside),
+        17..=64 => execute_within::<64>(records, executions, taker, algorithm, beside),
+        _ => execute_within::<MOST_ORDERS>(records, executions, taker, algorithm, beside),
     }
 }
 
@@ -86,6 +112,7 @@ fn execute_within<const ORDERS: usize>(
     executions: &mut [u8],
     taker: Taker,
     algorithm: Algorithm,
+    mut beside: impl Beside,
 ) -> Outcome {
     let mut fills = [Fill::NONE; ORDERS];
     let scratch = Scratch {
@@ -99,6 +126,7 @@ fn execute_within<const ORDERS: usize>(
     if count * EXECUTION_LENGTH > executions.len() {
         return Err(Refusal::ExecutionsDoNotFit);
     }
+    beside.executed(records, &fills[..count]);
     if settlement::execute(records, &fills[..count], executions) > 0 {
         settlement::close_gaps(records);
     }

@@ -1,9 +1,11 @@
-//! Every byte of a small book changed to every other value.
+//! Every byte of a small book, and of its ladder, changed.
 
 use crate::calls::Call;
 use crate::compare::{Borrower, Entry, Lending};
 use crate::tally;
 use model::book::RECORD_LENGTH;
+use model::ladder::ROW_LENGTH;
+use model::LADDER_LENGTH;
 use support::Coverage;
 
 /// Displayed, non-displayed and minimum quantity orders of both sides, two of
@@ -31,32 +33,87 @@ const CALLS: [Call; 3] = [
     Call::Take([1, 100_100, 900, 3]),
 ];
 
-/// Makes each call on each changed book. Gives the number of calls, or the first
-/// difference.
-pub fn run(borrower: &mut Borrower, coverage: &mut Coverage) -> Result<u64, String> {
-    let book = small_book();
-    let mut calls = 0;
-    for place in 0..book.len() {
-        for value in (0..=u8::MAX).filter(|&value| value != book[place]) {
-            let mut changed = book.clone();
-            changed[place] = value;
-            for call in CALLS {
-                let entry = Entry {
-                    call,
-                    book: changed.clone(),
-                    executions: vec![0x5A; 64],
-                };
-                let lending = Lending {
-                    twice: false,
-                    read_only: false,
-                };
-                let outcome = borrower
-                    .agreed(&entry, lending)
-                    .map_err(|difference| format!("byte {place} made {value}\n{difference}"))?;
-                tally::note(coverage, &entry, &outcome);
-                calls += 1;
+/// A form of each kind that is accepted with the book's own ladder.
+const FORMS: [Call; 3] = [
+    Call::AddLadder([2, 1, 0x0102_0309, 100_000, 100, 0]),
+    Call::ReduceLadder([0x0102_0306, 50]),
+    Call::TakeLadder([1, 100_100, 900, 3]),
+];
+/// The small book's ladder has three rows. Up to the end of the one behind them
+/// each byte is made every other value, and further on these.
+const EVERY_VALUE: usize = 4 * ROW_LENGTH;
+const SOME_VALUES: [u8; 4] = [1, 0x4C, 0x80, 0xFF];
+
+/// Makes calls and counts them.
+pub struct Maker<'a> {
+    pub borrower: &'a mut Borrower,
+    pub coverage: &'a mut Coverage,
+    pub calls: u64,
+}
+
+impl Maker<'_> {
+    fn call(&mut self, call: Call, book: &[u8], ladder: &[u8]) -> Result<usize, String> {
+        let entry = Entry {
+            call,
+            book: book.to_vec(),
+            executions: vec![0x5A; 64],
+            ladder: ladder.to_vec(),
+        };
+        let lending = Lending {
+            again: None,
+            read_only: false,
+        };
+        let outcome = self.borrower.agreed(&entry, lending)?;
+        tally::note(self.coverage, &entry, &outcome);
+        self.calls += 1;
+        Ok(outcome.refusal())
+    }
+
+    /// Makes each call on each changed book: every byte with every other value.
+    /// Fails at the first difference.
+    pub fn books(&mut self) -> Result<(), String> {
+        let book = small_book();
+        for place in 0..book.len() {
+            for value in (0..=u8::MAX).filter(|&value| value != book[place]) {
+                let mut changed = book.clone();
+                changed[place] = value;
+                for call in CALLS {
+                    self.call(call, &changed, &[])
+                        .map_err(|difference| told(place, value, &difference))?;
+                }
             }
         }
+        Ok(())
     }
-    Ok(calls)
+
+    /// Makes the forms by turns with each changed ladder. Fails at the first
+    /// difference, and where a form isn't refused 10.
+    pub fn ladders(&mut self) -> Result<(), String> {
+        let book = small_book();
+        let mut ladder = vec![0; LADDER_LENGTH];
+        assert_eq!(model::ladder(&book, &mut ladder), 0, "the book is sound");
+        let mut forms = FORMS.iter().cycle();
+        for place in 0..LADDER_LENGTH {
+            let values: Vec<u8> = match place {
+                0..EVERY_VALUE => (0..=u8::MAX).collect(),
+                _ => SOME_VALUES.to_vec(),
+            };
+            for value in values.into_iter().filter(|&value| value != ladder[place]) {
+                let mut changed = ladder.clone();
+                changed[place] = value;
+                let form = *forms.next().expect("forms without end");
+                let refusal = self
+                    .call(form, &book, &changed)
+                    .map_err(|difference| told(place, value, &difference))?;
+                if refusal != 10 {
+                    return Err(told(place, value, &format!("{form:?}: {refusal}")));
+                }
+            }
+        }
+        Ok(())
+    }
+}
+
+fn told(place: usize, value: u8, difference: &str) -> String {
+    format!("byte {place} made {value}\n{difference}")
 }

@@ -1,4 +1,4 @@
-//! The five calls as values, and the random making of calls for a book.
+//! The calls as values, and the random making of calls for a book.
 
 use crate::shapes::Shape;
 use model::book::{Order, Side, HIGHEST_PRICE, LARGEST_SIZE};
@@ -15,6 +15,11 @@ pub enum Call {
     Reduce([u32; 2]),
     /// Side, limit price, size and algorithm.
     Take([u32; 4]),
+    Ladder,
+    /// The forms that keep a ladder, with the numbers of their plain calls.
+    AddLadder([u32; 6]),
+    ReduceLadder([u32; 2]),
+    TakeLadder([u32; 4]),
 }
 
 impl Call {
@@ -25,24 +30,54 @@ impl Call {
             Call::Add(_) => "add",
             Call::Reduce(_) => "reduce",
             Call::Take(_) => "take",
+            Call::Ladder => "ladder",
+            Call::AddLadder(_) => "add_ladder",
+            Call::ReduceLadder(_) => "reduce_ladder",
+            Call::TakeLadder(_) => "take_ladder",
         }
+    }
+
+    /// The form that keeps a ladder, of a call that has one.
+    pub fn keeping_ladder(self) -> Call {
+        match self {
+            Call::Add(numbers) => Call::AddLadder(numbers),
+            Call::Reduce(numbers) => Call::ReduceLadder(numbers),
+            Call::Take(numbers) => Call::TakeLadder(numbers),
+            other => other,
+        }
+    }
+
+    /// The plain call of a form; every other call itself.
+    pub fn plain(self) -> Call {
+        match self {
+            Call::AddLadder(numbers) => Call::Add(numbers),
+            Call::ReduceLadder(numbers) => Call::Reduce(numbers),
+            Call::TakeLadder(numbers) => Call::Take(numbers),
+            other => other,
+        }
+    }
+
+    pub fn is_form(self) -> bool {
+        self.plain() != self
     }
 
     fn numbers(&mut self) -> &mut [u32] {
         match self {
-            Call::Check => &mut [],
+            Call::Check | Call::Ladder => &mut [],
             Call::Find(numbers) => numbers,
-            Call::Add(numbers) => numbers,
-            Call::Reduce(numbers) => numbers,
-            Call::Take(numbers) => numbers,
+            Call::Add(numbers) | Call::AddLadder(numbers) => numbers,
+            Call::Reduce(numbers) | Call::ReduceLadder(numbers) => numbers,
+            Call::Take(numbers) | Call::TakeLadder(numbers) => numbers,
         }
     }
 }
 
 /// Which calls are made, and how.
 pub struct Caller {
-    /// How often check, find, add, reduce and take come.
-    pub mix: [usize; 5],
+    /// How often check, find, add, reduce, take and ladder come.
+    pub mix: [usize; 6],
+    /// Whether add, reduce and take come in the forms that keep a ladder.
+    pub keeps_ladder: bool,
     /// One in so many calls has a wrong number.
     pub wrong: usize,
     /// How often each algorithm comes.
@@ -57,12 +92,16 @@ impl Caller {
             1 => Call::Find([number_near(random, orders)]),
             2 => add(random, shape, orders),
             3 => reduce(random, shape, orders),
-            _ => self.take(random, shape, orders),
+            4 => self.take(random, shape, orders),
+            _ => Call::Ladder,
         };
         if random.once_in(self.wrong) {
             spoil(random, call.numbers());
         }
-        call
+        match self.keeps_ladder {
+            true => call.keeping_ladder(),
+            false => call,
+        }
     }
 
     fn take(&self, random: &mut Random, shape: &Shape, orders: &[Order]) -> Call {

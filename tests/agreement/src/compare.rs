@@ -5,22 +5,26 @@ use crate::calls::Call;
 use crate::guarded::{Edge, Lender};
 use library::Numbers;
 use model::book::RECORD_LENGTH;
+use model::ladder::ROW_LENGTH;
 use std::fmt::Write;
 
-/// A call and the bytes of both buffers at its entry.
+/// A call and the bytes of the buffers at its entry. One that the call isn't
+/// lent is empty.
 #[derive(Clone)]
 pub struct Entry {
     pub call: Call,
     pub book: Vec<u8>,
     pub executions: Vec<u8>,
+    pub ladder: Vec<u8>,
 }
 
-/// What a call returned, and the bytes of both buffers behind it.
+/// What a call returned, and the bytes of the buffers behind it.
 #[derive(Clone, PartialEq, Eq)]
 pub struct Outcome {
     pub numbers: Numbers,
     pub book: Vec<u8>,
     pub executions: Vec<u8>,
+    pub ladder: Vec<u8>,
 }
 
 impl Outcome {
@@ -33,16 +37,16 @@ impl Outcome {
 /// be touched.
 #[derive(Clone, Copy, Debug)]
 pub struct Lending {
-    /// Whether the call is made a second time, on buffers that begin behind such
-    /// a page.
-    pub twice: bool,
-    /// Whether a call that only reads gets a book that can't be written.
+    /// Where the buffers lie if the call is made a second time.
+    pub again: Option<Edge>,
+    /// Whether a call that only reads the book gets one that can't be written.
     pub read_only: bool,
 }
 
 pub fn by_model(entry: &Entry) -> Outcome {
     let mut book = entry.book.clone();
     let mut executions = entry.executions.clone();
+    let mut ladder = entry.ladder.clone();
     let numbers = match entry.call {
         Call::Check => {
             let (refusal, orders) = model::check(&book);
@@ -54,25 +58,46 @@ pub fn by_model(entry: &Entry) -> Outcome {
         }
         Call::Add([side, kind, number, price, size, minimum]) => {
             let refusal = model::add(&mut book, side, kind, number, price, size, minimum);
-            [refusal as usize, 0, 0]
+            only(refusal)
         }
-        Call::Reduce([number, shares]) => [model::reduce(&mut book, number, shares) as usize, 0, 0],
+        Call::Reduce([number, shares]) => only(model::reduce(&mut book, number, shares)),
         Call::Take([side, limit, size, algorithm]) => {
             let taken = model::take(&mut book, &mut executions, side, limit, size, algorithm);
-            [taken.0 as usize, taken.1 as usize, taken.2 as usize]
+            all(taken)
+        }
+        Call::Ladder => only(model::ladder(&book, &mut ladder)),
+        Call::AddLadder(numbers) => only(model::add_ladder(&mut book, &mut ladder, numbers)),
+        Call::ReduceLadder([number, shares]) => {
+            let refusal = model::reduce_ladder(&mut book, &mut ladder, number, shares);
+            only(refusal)
+        }
+        Call::TakeLadder(numbers) => {
+            let taken = model::take_ladder(&mut book, &mut executions, &mut ladder, numbers);
+            all(taken)
         }
     };
     Outcome {
         numbers,
         book,
         executions,
+        ladder,
     }
 }
 
-/// The library with room for the two buffers that it is lent.
+/// An answer that is a refusal number alone.
+fn only(refusal: u32) -> Numbers {
+    all((refusal, 0, 0))
+}
+
+fn all((refusal, count, left): (u32, u32, u32)) -> Numbers {
+    [refusal, count, left].map(|number| number as usize)
+}
+
+/// The library with room for the buffers that it is lent.
 pub struct Borrower {
     books: Lender,
     executions: Lender,
+    ladders: Lender,
 }
 
 impl Borrower {
@@ -80,18 +105,14 @@ impl Borrower {
         Borrower {
             books: Lender::new(),
             executions: Lender::new(),
+            ladders: Lender::new(),
         }
     }
 
     /// The outcome that model and library agree on, or where they differ.
     pub fn agreed(&mut self, entry: &Entry, lending: Lending) -> Result<Outcome, String> {
         let model = by_model(entry);
-        let edges = if lending.twice {
-            &[Edge::End, Edge::Start][..]
-        } else {
-            &[Edge::End][..]
-        };
-        for &edge in edges {
+        for edge in [Some(Edge::End), lending.again].into_iter().flatten() {
             let library = self
                 .outcome(entry, edge, lending.read_only)
                 .map_err(|word| format!("{word}\n{}", describe(entry)))?;
@@ -104,6 +125,7 @@ impl Borrower {
     fn outcome(&mut self, entry: &Entry, edge: Edge, read_only: bool) -> Result<Outcome, String> {
         let mut book = self.books.lend(&entry.book, edge);
         let mut executions = self.executions.lend(&entry.executions, edge);
+        let mut ladder = self.ladders.lend(&entry.ladder, edge);
         let numbers = match entry.call {
             Call::Check if read_only => book.read_only(library::check),
             Call::Check => library::check(book.bytes()),
@@ -112,14 +134,28 @@ impl Borrower {
             Call::Add(numbers) => library::add(book.bytes(), numbers),
             Call::Reduce([number, shares]) => library::reduce(book.bytes(), number, shares),
             Call::Take(numbers) => library::take(book.bytes(), executions.bytes(), numbers),
+            Call::Ladder if read_only => {
+                book.read_only(|book| library::ladder(book, ladder.bytes()))
+            }
+            Call::Ladder => library::ladder(book.bytes(), ladder.bytes()),
+            Call::AddLadder(numbers) => library::add_ladder(book.bytes(), ladder.bytes(), numbers),
+            Call::ReduceLadder([number, shares]) => {
+                library::reduce_ladder(book.bytes(), ladder.bytes(), number, shares)
+            }
+            Call::TakeLadder(numbers) => {
+                let executions = executions.bytes();
+                library::take_ladder(book.bytes(), executions, ladder.bytes(), numbers)
+            }
         };
-        if !book.margin_is_whole() || !executions.margin_is_whole() {
+        let loans = [&book, &executions, &ladder];
+        if !loans.iter().all(|loan| loan.margin_is_whole()) {
             return Err(String::from("the library wrote beside a lent buffer"));
         }
         Ok(Outcome {
             numbers,
             book: book.bytes().to_vec(),
             executions: executions.bytes().to_vec(),
+            ladder: ladder.bytes().to_vec(),
         })
     }
 }
@@ -135,13 +171,20 @@ pub fn compare(entry: &Entry, model: &Outcome, library: &Outcome) -> Result<(), 
         let _ = writeln!(text, "returned: model {ours:?}, library {theirs:?}");
     }
     let buffers = [
-        ("book", &model.book, &library.book),
-        ("executions", &model.executions, &library.executions),
+        ("book", RECORD_LENGTH, &model.book, &library.book),
+        (
+            "executions",
+            RECORD_LENGTH,
+            &model.executions,
+            &library.executions,
+        ),
+        ("ladder", ROW_LENGTH, &model.ladder, &library.ladder),
     ];
-    for (name, ours, theirs) in buffers {
+    for (name, width, ours, theirs) in buffers {
         if let Some(place) = (0..ours.len()).find(|&place| ours[place] != theirs[place]) {
+            let (ours, theirs) = (hex(ours, width), hex(theirs, width));
             let _ = writeln!(text, "{name}: first different byte at {place}");
-            let _ = writeln!(text, "  model:\n{}  library:\n{}", hex(ours), hex(theirs));
+            let _ = writeln!(text, "  model:\n{ours}  library:\n{theirs}");
         }
     }
     Err(text)
@@ -150,17 +193,20 @@ pub fn compare(entry: &Entry, model: &Outcome, library: &Outcome) -> Result<(), 
 /// The call and the bytes at its entry.
 fn describe(entry: &Entry) -> String {
     format!(
-        "call: {:?}\nbook at entry, {} bytes:\n{}executions buffer of {} bytes\n",
+        "call: {:?}\nbook at entry, {} bytes:\n{}executions buffer of {} bytes\n\
+         ladder at entry, {} bytes:\n{}",
         entry.call,
         entry.book.len(),
-        hex(&entry.book),
+        hex(&entry.book, RECORD_LENGTH),
         entry.executions.len(),
+        entry.ladder.len(),
+        hex(&entry.ladder, ROW_LENGTH),
     )
 }
 
-/// Bytes in hex, 32 a line, up to the last line that isn't zero.
-fn hex(bytes: &[u8]) -> String {
-    let lines: Vec<&[u8]> = bytes.chunks(RECORD_LENGTH).collect();
+/// Bytes in hex, so many a line, up to the last line that isn't zero.
+fn hex(bytes: &[u8], width: usize) -> String {
+    let lines: Vec<&[u8]> = bytes.chunks(width).collect();
     let is_used = |line: &&[u8]| line.iter().any(|&byte| byte != 0);
     let used = lines.iter().rposition(is_used);
     let mut text = String::new();

@@ -9,6 +9,7 @@ const PAGE: usize = 4096;
 const MOST_PAGES: usize = 6;
 /// What the bytes beside a buffer hold, in a page that it doesn't fill.
 const MARGIN: u8 = 0xA5;
+const MARGINS: [u8; PAGE] = [MARGIN; PAGE];
 
 const PROT_NONE: c_int = 0;
 const PROT_READ: c_int = 1;
@@ -37,7 +38,11 @@ extern "C" {
 pub enum Edge {
     Start,
     End,
+    /// Neither: the buffer has an odd address, `ODD` bytes behind such a page.
+    Neither,
 }
+
+const ODD: usize = 13;
 
 /// Room for buffers: for each number of pages a place between two pages that
 /// may not be touched.
@@ -54,13 +59,17 @@ impl Lender {
 
     /// Lends a buffer with these bytes. One at a time is lent of a lender.
     pub fn lend(&mut self, bytes: &[u8], edge: Edge) -> Loan<'_> {
-        let pages = bytes.len().div_ceil(PAGE);
+        let before = match edge {
+            Edge::Neither => ODD,
+            _ => 0,
+        };
+        let pages = (before + bytes.len()).div_ceil(PAGE);
         // Safety: the place has so many pages, which nobody else uses while
         // the loan borrows the lender.
         let room = unsafe { std::slice::from_raw_parts_mut(self.places[pages], pages * PAGE) };
         let start = match edge {
-            Edge::Start => 0,
             Edge::End => room.len() - bytes.len(),
+            _ => before,
         };
         room.fill(MARGIN);
         room[start..start + bytes.len()].copy_from_slice(bytes);
@@ -95,8 +104,10 @@ impl Loan<'_> {
     /// Whether the bytes beside the buffer are as they were.
     pub fn margin_is_whole(&self) -> bool {
         let (before, rest) = self.room.split_at(self.start);
-        let mut margin = before.iter().chain(&rest[self.length..]);
-        margin.all(|&byte| byte == MARGIN)
+        let margins = [before, &rest[self.length..]];
+        margins
+            .iter()
+            .all(|margin| **margin == MARGINS[..margin.len()])
     }
 
     /// Changes the byte at a distance from the buffer's start, which may lie

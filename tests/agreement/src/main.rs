@@ -1,5 +1,5 @@
 //! Compares the library with the model: random books and calls, every returned
-//! number and every byte of both buffers, refused calls too.
+//! number and every byte of the lent buffers, refused calls too.
 //!
 //! `agreement [ROUNDS [FIRST SEED]]` has so many rounds in each group. One round
 //! from a seed that was named for a difference repeats it.
@@ -8,7 +8,9 @@ mod bytewise;
 mod calls;
 mod compare;
 mod damage;
+mod groups;
 mod guarded;
+mod ladders;
 mod rounds;
 mod selfcheck;
 mod shapes;
@@ -49,20 +51,23 @@ fn run(rounds: u64, first: u64) -> ExitCode {
     let mut report = Report::default();
     let mut borrower = Borrower::new();
     let mut coverage = tally::expected();
-    selfcheck::run(&mut report, &mut borrower);
     guarded::report_touches();
+    selfcheck::run(&mut report, &mut borrower);
     let seeds = first..first + rounds;
     println!("seeds {first} to {}", first + rounds - 1);
     let mut calls = 0;
-    for group in rounds::groups() {
+    for group in groups::all() {
         let outcome = group.run(seeds.clone(), &mut borrower, &mut coverage);
         report.check(group.name, outcome.map(|count| calls += count));
     }
-    let outcome = bytewise::run(&mut borrower, &mut coverage);
-    report.check(
-        "every byte of a small book changed",
-        outcome.map(|count| calls += count),
-    );
+    let mut maker = bytewise::Maker {
+        borrower: &mut borrower,
+        coverage: &mut coverage,
+        calls,
+    };
+    report.check("every byte of a small book changed", maker.books());
+    report.check("every byte of its ladder changed", maker.ladders());
+    let calls = maker.calls;
     println!("{calls} calls:");
     coverage.print();
     if rounds >= DEFAULT_ROUNDS {

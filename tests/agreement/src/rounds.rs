@@ -1,17 +1,17 @@
-//! The groups of rounds. A round makes a book from its seed and has a row of
-//! calls on it, each by the model and by the library.
+//! Rounds. A round makes a book from its seed and has a row of calls on it, each
+//! by the model and by the library.
 
 use crate::calls::{Call, Caller};
 use crate::compare::{self, Borrower, Entry, Lending};
 use crate::damage::DAMAGES;
-use crate::guarded;
-use crate::shapes::{Shape, Sizes};
+use crate::guarded::{self, Edge};
+use crate::ladders::Keeper;
+use crate::shapes::Shape;
 use crate::tally;
 use model::book::{self, Order, RECORD_LENGTH};
 use model::EXECUTION_LENGTH;
 use support::{Coverage, Random};
 
-const EVEN: [usize; 3] = [1, 1, 1];
 const FULL_BOOK: usize = 256;
 
 /// How the books of a group are made.
@@ -24,86 +24,25 @@ pub enum Making {
     /// Built, of two to six orders.
     Few,
     Full,
+    /// Full or nearly so, with a price for each order.
+    Spread,
     /// Of no or hardly any records.
     Tiny,
     Damaged,
 }
 
+/// Rounds that have something in common.
 pub struct Group {
     pub name: &'static str,
-    making: Making,
-    kinds: [usize; 3],
+    pub making: Making,
+    pub kinds: [usize; 3],
     /// What the group's shapes have in common beside the kinds.
-    reshape: fn(&mut Shape),
-    caller: Caller,
-    calls: usize,
-}
-
-/// How often check, find, add, reduce and take come.
-const MIXED: [usize; 5] = [1, 2, 4, 2, 4];
-const MOSTLY_ADD: [usize; 5] = [1, 1, 12, 2, 2];
-const MOSTLY_TAKE: [usize; 5] = [1, 1, 2, 1, 8];
-
-fn group(name: &'static str, making: Making, mix: [usize; 5], calls: usize) -> Group {
-    Group {
-        name,
-        making,
-        kinds: EVEN,
-        reshape: |_| {},
-        caller: Caller {
-            mix,
-            wrong: 40,
-            algorithms: EVEN,
-        },
-        calls,
-    }
-}
-
-pub fn groups() -> Vec<Group> {
-    let mut minimums = group("minimum quantity orders", Making::Built, MOSTLY_TAKE, 6);
-    minimums.kinds = [1, 2, 8];
-    let mut large = group("large sizes", Making::Built, MIXED, 10);
-    large.reshape = |shape| shape.sizes = Sizes::Large;
-    let mut wrong = group("wrong numbers", Making::Grown, MIXED, 20);
-    wrong.caller.wrong = 2;
-    let [setters, marks, equals] = setter_groups();
-    vec![
-        group("books filled from empty", Making::Empty, MOSTLY_ADD, 40),
-        group("books grown by add", Making::Grown, MIXED, 15),
-        group("books built record by record", Making::Built, MIXED, 10),
-        group(
-            "full books and nearly full ones",
-            Making::Full,
-            MOSTLY_TAKE,
-            6,
-        ),
-        group("books of no or few records", Making::Tiny, MIXED, 15),
-        setters,
-        marks,
-        equals,
-        minimums,
-        large,
-        wrong,
-        group("damaged books", Making::Damaged, MIXED, 12),
-    ]
-}
-
-/// The groups whose takes are mostly by the price-setter variation.
-fn setter_groups() -> [Group; 3] {
-    let mut setters = group("price setters", Making::Grown, MOSTLY_TAKE, 8);
-    setters.kinds = [8, 1, 1];
-    setters.caller.algorithms = [1, 1, 6];
-    let mut marks = group("setter marks at every price", Making::Built, MOSTLY_TAKE, 5);
-    marks.kinds = [8, 1, 1];
-    marks.caller.algorithms = [0, 0, 1];
-    let mut equals = group("setters among equal sizes", Making::Few, MOSTLY_TAKE, 5);
-    equals.kinds = [8, 1, 1];
-    equals.reshape = |shape| {
-        shape.sizes = Sizes::Alike;
-        shape.levels = 1;
-    };
-    equals.caller.algorithms = [0, 0, 1];
-    [setters, marks, equals]
+    pub reshape: fn(&mut Shape),
+    pub caller: Caller,
+    /// Calls of a round.
+    pub calls: usize,
+    /// One in so many rounds is run.
+    pub one_in: usize,
 }
 
 impl Group {
@@ -116,7 +55,7 @@ impl Group {
         coverage: &mut Coverage,
     ) -> Result<u64, String> {
         let mut calls = 0;
-        for seed in seeds {
+        for seed in seeds.step_by(self.one_in) {
             guarded::now_running(seed);
             calls += self.round(seed, borrower, coverage).map_err(|difference| {
                 format!("seed {seed} of the group \"{}\"\n{difference}", self.name)
@@ -137,18 +76,27 @@ impl Group {
         (self.reshape)(&mut shape);
         let mut book = self.book(&mut random, &shape);
         let mut known = book::read(&book).expect("a sound book");
+        let mut keeper = Keeper::new(&book);
         let damage = self.damage(&mut random, &mut book, &known);
         for _ in 0..self.calls {
             known = book::read(&book).unwrap_or(known);
             let call = self.caller.call(&mut random, &shape, &known);
             let executions = executions_buffer(&mut random, call, &book);
+            let lent = keeper.lend(&mut random, call, &book);
             let entry = Entry {
                 call,
                 book,
                 executions,
+                ladder: lent.bytes,
             };
             let outcome = borrower.agreed(&entry, lending(seed, &mut random))?;
+            keeper.keep(&entry, &outcome)?;
             tally::note(coverage, &entry, &outcome);
+            if let Some((wrong, refusal)) = lent.wrong {
+                if outcome.refusal() == refusal {
+                    coverage.note(tally::refused_ladder(wrong, refusal));
+                }
+            }
             if let (Some(damage), 2) = (damage, outcome.refusal()) {
                 coverage.note(tally::refused_damage(damage));
             }
@@ -179,6 +127,10 @@ impl Group {
                 let free = random.one_of(&[0, 0, 0, 1, 2, 16]);
                 shape.built_book(random, FULL_BOOK, FULL_BOOK - free)
             }
+            Making::Spread => {
+                let free = random.one_of(&[0, 0, 1, 2]);
+                shape.spread_book(random, FULL_BOOK, FULL_BOOK - free)
+            }
             Making::Tiny => {
                 let records = random.one_of(&[0, 0, 1, 2, 3]);
                 shape.grown_book(random, records, records)
@@ -207,10 +159,14 @@ impl Group {
     }
 }
 
-/// The calls of every other seed are made twice.
+/// The calls of three seeds in four are made twice.
 fn lending(seed: u64, random: &mut Random) -> Lending {
     Lending {
-        twice: seed.is_multiple_of(2),
+        again: match seed % 4 {
+            1 => Some(Edge::Neither),
+            3 => None,
+            _ => Some(Edge::Start),
+        },
         read_only: random.once_in(4),
     }
 }
@@ -218,13 +174,14 @@ fn lending(seed: u64, random: &mut Random) -> Lending {
 /// A buffer for the executions of a take, of random bytes: exactly long enough,
 /// or a little or much shorter or longer. Other calls have none.
 fn executions_buffer(random: &mut Random, call: Call, book: &[u8]) -> Vec<u8> {
-    if !matches!(call, Call::Take(_)) {
+    if !matches!(call.plain(), Call::Take(_)) {
         return Vec::new();
     }
     let trial = Entry {
-        call,
+        call: call.plain(),
         book: book.to_vec(),
         executions: vec![0; FULL_BOOK * EXECUTION_LENGTH],
+        ladder: Vec::new(),
     };
     let need = compare::by_model(&trial).numbers[1] * EXECUTION_LENGTH;
     let length = match random.below(16) {

@@ -4,6 +4,7 @@
 use crate::calls::Call;
 use crate::compare::{self, Borrower, Entry, Lending, Outcome};
 use crate::guarded::{self, Edge, Lender};
+use model::LADDER_LENGTH;
 use std::os::unix::process::ExitStatusExt;
 use std::process::Command;
 use support::Report;
@@ -13,8 +14,8 @@ pub const TOUCH: &str = "touch";
 
 const SIGSEGV: i32 = 11;
 /// Lengths of the buffers beside which a byte is touched; the last is two whole
-/// pages.
-const LENGTHS: [usize; 4] = [0, 1, 100, 8_192];
+/// pages, the one before it a ladder's.
+const LENGTHS: [usize; 5] = [0, 1, 100, LADDER_LENGTH, 8_192];
 
 /// Touches a byte that may not be touched, which should be the end.
 pub fn touch(what: &str, length: usize) {
@@ -52,7 +53,12 @@ fn touch_ends(what: &str, length: usize, fatal: bool) -> Result<(), String> {
 /// Whether a write beside a buffer, in a page that it doesn't fill, is seen.
 fn margin_is_watched() -> Result<(), String> {
     let mut lender = Lender::new();
-    for (edge, distance) in [(Edge::End, -1), (Edge::Start, 100)] {
+    for (edge, distance) in [
+        (Edge::End, -1),
+        (Edge::Start, 100),
+        (Edge::Neither, -1),
+        (Edge::Neither, 100),
+    ] {
         let mut loan = lender.lend(&[0; 100], edge);
         loan.touch(0);
         let whole = loan.margin_is_whole();
@@ -64,33 +70,62 @@ fn margin_is_watched() -> Result<(), String> {
     Ok(())
 }
 
-/// A take that executes, and so has an answer of each sort.
+/// A take with a ladder that executes, and so has an answer of each sort and
+/// changes every buffer.
 fn sample() -> Entry {
     let mut book = vec![0; 96];
+    let mut ladder = vec![0; LADDER_LENGTH];
     for (number, size) in [(1, 600), (2, 400), (3, 300)] {
-        model::add(&mut book, 2, 1, number, 100_000, size, 0);
+        model::add_ladder(&mut book, &mut ladder, [2, 1, number, 100_000, size, 0]);
     }
     Entry {
-        call: Call::Take([1, 100_000, 1_200, 2]),
+        call: Call::TakeLadder([1, 100_000, 1_200, 2]),
         book,
         executions: vec![0x5A; 64],
+        ladder,
     }
 }
 
-/// Whether the comparison sees that the model's outcome has been altered.
+/// That take with one byte of its ladder changed, for which it is refused.
+fn refused_sample() -> Entry {
+    let mut entry = sample();
+    entry.ladder[LADDER_LENGTH - 1] = 1;
+    entry
+}
+
+/// Whether the comparison sees that the model's outcome has been altered, of an
+/// accepted call and of a refused one.
 fn sees(borrower: &mut Borrower, alter: impl Fn(&mut Outcome)) -> Result<(), String> {
-    let entry = sample();
+    for entry in [sample(), refused_sample()] {
+        let lending = Lending {
+            again: Some(Edge::Start),
+            read_only: false,
+        };
+        let library = borrower.agreed(&entry, lending)?;
+        let mut altered = compare::by_model(&entry);
+        alter(&mut altered);
+        if compare::compare(&entry, &altered, &library).is_ok() {
+            return Err(String::from("an altered outcome was taken for the same"));
+        }
+    }
+    Ok(())
+}
+
+/// Whether the library is lent the entry's own ladder, and the ladder that it
+/// leaves is the one that is looked at: the sample's changes, and a byte more
+/// makes it a refused one.
+fn ladder_is_lent(borrower: &mut Borrower) -> Result<(), String> {
     let lending = Lending {
-        twice: true,
+        again: Some(Edge::Neither),
         read_only: false,
     };
-    let library = borrower.agreed(&entry, lending)?;
-    let mut altered = compare::by_model(&entry);
-    alter(&mut altered);
-    match compare::compare(&entry, &altered, &library) {
-        Err(_) => Ok(()),
-        Ok(()) => Err(String::from("an altered outcome was taken for the same")),
-    }
+    let accepted = borrower.agreed(&sample(), lending)?;
+    let refused = borrower.agreed(&refused_sample(), lending)?;
+    let changed = accepted.refusal() == 0 && accepted.ladder != sample().ladder;
+    let kept = refused.refusal() == 10 && refused.ladder == refused_sample().ladder;
+    (changed && kept)
+        .then_some(())
+        .ok_or(String::from("the samples aren't what they should be"))
 }
 
 pub fn run(report: &mut Report, borrower: &mut Borrower) {
@@ -119,6 +154,13 @@ pub fn run(report: &mut Report, borrower: &mut Borrower) {
     for place in [0, 2, 3, 47, 63] {
         let name = format!("an altered byte {place} of the executions is seen");
         let outcome = sees(borrower, |outcome| outcome.executions[place] ^= 1);
+        report.check(&name, outcome);
+    }
+    report.check("a ladder is lent and looked at", ladder_is_lent(borrower));
+    // Row by row: the mark, a share, the count, a zero of a row, the zeros behind.
+    for place in [0, 8, 17, 23, 24, LADDER_LENGTH - 1] {
+        let name = format!("an altered byte {place} of the ladder is seen");
+        let outcome = sees(borrower, |outcome| outcome.ladder[place] ^= 1);
         report.check(&name, outcome);
     }
 }

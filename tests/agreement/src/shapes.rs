@@ -3,6 +3,10 @@
 use model::book::{self, Order, Side, HIGHEST_PRICE, LARGEST_SIZE, RECORD_LENGTH};
 use support::Random;
 
+/// Levels of a side in a book that has a price for each order; prime to the
+/// strides by which they are gone through.
+const SPREAD_LEVELS: u32 = 600;
+
 #[derive(Clone, Copy)]
 pub enum Sizes {
     /// 99, 100, 101, 150 and the like.
@@ -25,6 +29,8 @@ pub struct Shape {
     pub usual: u32,
     /// How often displayed, non-displayed and minimum quantity orders come.
     pub kinds: [usize; 3],
+    /// The sides that orders have, one as often as the other.
+    pub sides: [Side; 2],
     /// Whether buys and sells have the same prices, or meet at one at most.
     pub overlap: bool,
     /// The lowest price of a buy, and the distance of two prices.
@@ -50,6 +56,7 @@ impl Shape {
             ]),
             usual: random.one_of(&[40, 99, 250, 500, 1_000]),
             kinds,
+            sides: [Side::Buy, Side::Sell],
             overlap: random.once_in(3),
             lowest: random.one_of(&[1, 100_000, highest]),
             step,
@@ -61,7 +68,11 @@ impl Shape {
     }
 
     fn price_of_side(&self, random: &mut Random, side: Side) -> u32 {
-        let level = random.within(0..=self.levels - 1);
+        self.price_at(side, random.within(0..=self.levels - 1))
+    }
+
+    /// The price of a side's level.
+    fn price_at(&self, side: Side, level: u32) -> u32 {
         match side {
             Side::Sell if !self.overlap => self.lowest + self.step * (self.levels - 1 + level),
             _ => self.lowest + self.step * level,
@@ -86,7 +97,7 @@ impl Shape {
     /// Side, kind, number, price, size and minimum of an order, as add takes
     /// them.
     pub fn order(&self, random: &mut Random, number: u32) -> [u32; 6] {
-        let side = random.one_of(&[Side::Buy, Side::Sell]);
+        let side = random.one_of(&self.sides);
         let kind = random.weighted(&self.kinds) as u32 + 1;
         let price = self.price_of_side(random, side);
         let size = self.size(random);
@@ -101,6 +112,23 @@ impl Shape {
     /// A sound book of so many records, so many of them orders, written record
     /// by record: sides may overlap, and marks may be where add sets none.
     pub fn built_book(&self, random: &mut Random, records: usize, orders: usize) -> Vec<u8> {
+        let placed = self.orders(random, orders);
+        marked_book(random, records, placed)
+    }
+
+    /// As a built book, but every order has a price of its own. The shape has as
+    /// many levels as orders, or more.
+    pub fn spread_book(&self, random: &mut Random, records: usize, orders: usize) -> Vec<u8> {
+        let mut placed = self.orders(random, orders);
+        let stride = random.one_of(&[1, 7, 11, SPREAD_LEVELS - 1]);
+        for (order, place) in placed.iter_mut().zip(0..) {
+            order.price = self.price_at(order.side, place * stride % SPREAD_LEVELS);
+        }
+        marked_book(random, records, placed)
+    }
+
+    /// So many orders, by rising number and without marks.
+    fn orders(&self, random: &mut Random, orders: usize) -> Vec<Order> {
         let mut next = random.one_of(&[1, 1_000, u32::MAX - 3 * 256]);
         let mut placed: Vec<Order> = Vec::new();
         for _ in 0..orders {
@@ -110,10 +138,14 @@ impl Shape {
             placed.push(order);
             next += random.within(1..=3);
         }
-        set_marks(random, &mut placed);
-        let mut book = vec![0; records * RECORD_LENGTH];
-        book::write(&mut book, &placed);
-        book
+        placed
+    }
+
+    /// Makes room for a book in which every order has a price of its own.
+    pub fn spread(&mut self) {
+        self.levels = SPREAD_LEVELS;
+        let highest = HIGHEST_PRICE - 2 * SPREAD_LEVELS * self.step;
+        self.lowest = self.lowest.min(highest);
     }
 
     /// A book of so many records after so many tries to add an order.
@@ -125,6 +157,14 @@ impl Shape {
         }
         book
     }
+}
+
+/// A book of these orders, some of them marked.
+fn marked_book(random: &mut Random, records: usize, mut orders: Vec<Order>) -> Vec<u8> {
+    set_marks(random, &mut orders);
+    let mut book = vec![0; records * RECORD_LENGTH];
+    book::write(&mut book, &orders);
+    book
 }
 
 /// Marks some displayed orders, at most one of a side and price: none, the first

@@ -2,6 +2,7 @@
 
 mod divisions;
 mod groups;
+mod ladders;
 mod paragraphs;
 mod setters;
 mod takes;
@@ -9,17 +10,22 @@ mod takes;
 use crate::calls::Call;
 use crate::compare::{Entry, Outcome};
 use crate::damage::DAMAGES;
+use crate::ladders::WRONG_LADDERS;
 use model::book::{self, Order, Side, LONGEST_BOOK, RECORD_LENGTH};
 use support::Coverage;
 use takes::Take;
 
 /// The calls and the refusals that each can have.
-const REFUSALS: [(&str, &[usize]); 5] = [
+const REFUSALS: [(&str, &[usize]); 9] = [
     ("check", &[2]),
     ("find", &[1, 2, 3]),
     ("add", &[1, 2, 4, 5, 6]),
     ("reduce", &[1, 2, 3, 7]),
     ("take", &[1, 2, 8]),
+    ("ladder", &[2, 9]),
+    ("add_ladder", &[1, 2, 9, 10, 4, 5, 6]),
+    ("reduce_ladder", &[1, 2, 9, 10, 3, 7]),
+    ("take_ladder", &[1, 2, 9, 10, 8]),
 ];
 
 const OCCASIONS: [&str; 6] = [
@@ -43,6 +49,9 @@ pub fn expected() -> Coverage {
     for (damage, _) in DAMAGES {
         coverage.expect(refused_damage(damage));
     }
+    for (wrong, refusal, _) in WRONG_LADDERS {
+        coverage.expect(refused_ladder(wrong, refusal));
+    }
     for occasion in OCCASIONS {
         coverage.expect(occasion);
     }
@@ -50,11 +59,16 @@ pub fn expected() -> Coverage {
     paragraphs::expect(&mut coverage);
     divisions::expect(&mut coverage);
     setters::expect(&mut coverage);
+    ladders::expect(&mut coverage);
     coverage
 }
 
 pub fn refused_damage(damage: &str) -> String {
     format!("damaged book refused: {damage}")
+}
+
+pub fn refused_ladder(wrong: &str, refusal: usize) -> String {
+    format!("wrong ladder refused {refusal}: {wrong}")
 }
 
 /// Notes what a call was and what came of it.
@@ -66,13 +80,20 @@ pub fn note(coverage: &mut Coverage, entry: &Entry, outcome: &Outcome) {
             refusal => coverage.note(format!("{name}: refused {refusal}")),
         }
     }
+    let has_ladder = entry.call.is_form() || entry.call == Call::Ladder;
     if outcome.refusal() != 0 {
+        if has_ladder {
+            ladders::note_refused(coverage, entry, outcome);
+        }
         return;
     }
     let before = book::read(&entry.book).expect("an accepted call has a sound book");
     let after = book::read(&outcome.book).expect("an accepted call leaves a sound book");
     note_book(coverage, entry, &before);
-    match entry.call {
+    if has_ladder {
+        ladders::note_accepted(coverage, entry, outcome, [&before, &after]);
+    }
+    match entry.call.plain() {
         Call::Add(_) => {
             let marked = after.last().is_some_and(|order| order.setter);
             coverage.note_if(marked, "add that set a setter mark");
@@ -85,7 +106,7 @@ pub fn note(coverage: &mut Coverage, entry: &Entry, outcome: &Outcome) {
             divisions::note(coverage, &take);
             setters::note(coverage, entry, &before, &take);
         }
-        Call::Check | Call::Find(_) => {}
+        _ => {}
     }
 }
 

@@ -53,6 +53,73 @@ extern "C" {
         executions_len: usize,
         request: TakeRequest,
     ) -> Taken;
+    fn ruhvasto_ladder(book: *const u8, book_len: usize, ladder: *mut u8, ladder_len: usize)
+        -> u32;
+    fn ruhvasto_add_ladder(
+        book: *mut u8,
+        book_len: usize,
+        ladder: *mut u8,
+        ladder_len: usize,
+        request: AddRequest,
+    ) -> u32;
+    fn ruhvasto_reduce_ladder(
+        book: *mut u8,
+        book_len: usize,
+        ladder: *mut u8,
+        ladder_len: usize,
+        number: u32,
+        shares: u32,
+    ) -> u32;
+    fn ruhvasto_take_ladder(
+        book: *mut u8,
+        book_len: usize,
+        executions: *mut u8,
+        executions_len: usize,
+        ladder: *mut u8,
+        ladder_len: usize,
+        request: TakeRequest,
+    ) -> Taken;
+}
+
+impl AddRequest {
+    #[inline]
+    fn of(numbers: [u32; 6]) -> AddRequest {
+        let [side, kind, number, price, size, minimum] = numbers;
+        AddRequest {
+            side,
+            kind,
+            number,
+            price,
+            size,
+            minimum,
+        }
+    }
+}
+
+impl TakeRequest {
+    #[inline]
+    fn of(numbers: [u32; 4]) -> TakeRequest {
+        let [side, limit, size, algorithm] = numbers;
+        TakeRequest {
+            side,
+            limit,
+            size,
+            algorithm,
+        }
+    }
+}
+
+impl Taken {
+    #[inline]
+    fn numbers(self) -> Numbers {
+        [self.refusal, self.count, self.left].map(|number| number as usize)
+    }
+}
+
+/// An answer that is a refusal number alone.
+#[inline]
+fn only(refusal: u32) -> Numbers {
+    [refusal as usize, 0, 0]
 }
 
 #[inline]
@@ -72,44 +139,73 @@ pub fn find(book: &[u8], number: u32) -> Numbers {
 /// Side, kind, number, price, size and minimum.
 #[inline]
 pub fn add(book: &mut [u8], numbers: [u32; 6]) -> Numbers {
-    let [side, kind, number, price, size, minimum] = numbers;
-    let request = AddRequest {
-        side,
-        kind,
-        number,
-        price,
-        size,
-        minimum,
-    };
+    let request = AddRequest::of(numbers);
     // Safety: the slice is as many bytes as said, and nobody else's meanwhile.
-    let refusal = unsafe { ruhvasto_add(book.as_mut_ptr(), book.len(), request) };
-    [refusal as usize, 0, 0]
+    only(unsafe { ruhvasto_add(book.as_mut_ptr(), book.len(), request) })
 }
 
 #[inline]
 pub fn reduce(book: &mut [u8], number: u32, shares: u32) -> Numbers {
     // Safety: as above.
-    let refusal = unsafe { ruhvasto_reduce(book.as_mut_ptr(), book.len(), number, shares) };
-    [refusal as usize, 0, 0]
+    only(unsafe { ruhvasto_reduce(book.as_mut_ptr(), book.len(), number, shares) })
 }
 
 /// Side, limit, size and algorithm.
 #[inline]
 pub fn take(book: &mut [u8], executions: &mut [u8], numbers: [u32; 4]) -> Numbers {
-    let [side, limit, size, algorithm] = numbers;
-    let request = TakeRequest {
-        side,
-        limit,
-        size,
-        algorithm,
-    };
+    let request = TakeRequest::of(numbers);
     let (start, length) = (book.as_mut_ptr(), book.len());
     let (second, room) = (executions.as_mut_ptr(), executions.len());
     // Safety: as above, for both slices; they don't overlap.
-    let taken = unsafe { ruhvasto_take(start, length, second, room, request) };
-    [
-        taken.refusal as usize,
-        taken.count as usize,
-        taken.left as usize,
-    ]
+    unsafe { ruhvasto_take(start, length, second, room, request) }.numbers()
+}
+
+#[inline]
+pub fn ladder(book: &[u8], ladder: &mut [u8]) -> Numbers {
+    let (start, length) = (book.as_ptr(), book.len());
+    // Safety: as above; the book is only read.
+    only(unsafe { ruhvasto_ladder(start, length, ladder.as_mut_ptr(), ladder.len()) })
+}
+
+/// Add that keeps a ladder.
+#[inline]
+pub fn add_ladder(book: &mut [u8], ladder: &mut [u8], numbers: [u32; 6]) -> Numbers {
+    let request = AddRequest::of(numbers);
+    let (start, length) = (book.as_mut_ptr(), book.len());
+    let (second, room) = (ladder.as_mut_ptr(), ladder.len());
+    // Safety: as above.
+    only(unsafe { ruhvasto_add_ladder(start, length, second, room, request) })
+}
+
+/// Reduce that keeps a ladder.
+#[inline]
+pub fn reduce_ladder(book: &mut [u8], ladder: &mut [u8], number: u32, shares: u32) -> Numbers {
+    let (start, length) = (book.as_mut_ptr(), book.len());
+    let (second, room) = (ladder.as_mut_ptr(), ladder.len());
+    // Safety: as above.
+    only(unsafe { ruhvasto_reduce_ladder(start, length, second, room, number, shares) })
+}
+
+/// Take that keeps a ladder.
+#[inline]
+pub fn take_ladder(
+    book: &mut [u8],
+    executions: &mut [u8],
+    ladder: &mut [u8],
+    numbers: [u32; 4],
+) -> Numbers {
+    let request = TakeRequest::of(numbers);
+    // Safety: as above, for three slices.
+    let taken = unsafe {
+        ruhvasto_take_ladder(
+            book.as_mut_ptr(),
+            book.len(),
+            executions.as_mut_ptr(),
+            executions.len(),
+            ladder.as_mut_ptr(),
+            ladder.len(),
+            request,
+        )
+    };
+    taken.numbers()
 }

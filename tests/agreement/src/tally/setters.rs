@@ -72,6 +72,7 @@ pub fn note(coverage: &mut Coverage, entry: &Entry, before: &[Order], take: &Tak
 /// shares.
 fn by_plain_sharing(entry: &Entry, before: &[Order]) -> Take {
     let mut entry = entry.clone();
+    entry.call = entry.call.plain();
     if let Call::Take([.., algorithm]) = &mut entry.call {
         *algorithm = 2;
     }

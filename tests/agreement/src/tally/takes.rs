@@ -62,7 +62,7 @@ pub struct Take {
 impl Take {
     /// The take from a book that has these orders at entry.
     pub fn new(entry: &Entry, outcome: &Outcome, before: &[Order]) -> Take {
-        let Call::Take([side, limit, size, algorithm]) = entry.call else {
+        let Call::Take([side, limit, size, algorithm]) = entry.call.plain() else {
             unreachable!("only takes are noted as such");
         };
         let side = Side::of_number(side).expect("an accepted side");

@@ -11,7 +11,7 @@ use Rattle.units.proofs.Totals.{total-map}
 use Rattle.parts.specs.Key.{sharesIn, withShares}
 use Rattle.parts.proofs.Keys.{with-own}
 use Rattle.allocation.specs.Credit.{ledger}
-use Rattle.allocation.proofs.Places.{every-at}
+use Rattle.units.proofs.Members.{every-at}
 use Rattle.allocation.proofs.Crediting.{Begun, begun-none, begun-next, begun-note, begun-more, begun-all}
 use Rattle.allocation.proofs.credit.fill.Statement.{statement}
 use Rattle.allocation.proofs.credit.fill.Tie as tie

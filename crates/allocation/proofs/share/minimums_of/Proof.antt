@@ -10,9 +10,10 @@ use Rattle.orders.specs.Order.{minimumOf}
 use Rattle.book.specs.Sound.{ordersOf, orderAt}
 use Rattle.book.proofs.Checking.{sound-fits}
 use Rattle.parts.specs.Key.{placeIn}
-use Rattle.dividing.proofs.Walking.{Put, put-none, put-more, put-done, map-more, map-done}
+use Rattle.units.proofs.Columns.{Put, put-none, put-more, put-done}
+use Rattle.dividing.proofs.Walking.{map-more, map-done}
 use Rattle.allocation.specs.Sharing.{minimumIn}
-use Rattle.allocation.proofs.Places.{every-at}
+use Rattle.units.proofs.Members.{every-at}
 use Rattle.allocation.proofs.share.minimums_of.Statement.{statement}
 use Rattle.allocation.proofs.share.minimums_of.Tie as tie
 

@@ -10,7 +10,7 @@ use Rattle.book.specs.Sound.{ordersOf, orderAt}
 use Rattle.book.proofs.Checking.{sound-fits}
 use Rattle.parts.specs.Key.{placeIn}
 use Rattle.allocation.specs.Walk.{partIn}
-use Rattle.allocation.proofs.Places.{every-at}
+use Rattle.units.proofs.Members.{every-at}
 use Rattle.allocation.proofs.Setters.{NoneBefore, none-more, first-found, first-none}
 use Rattle.allocation.proofs.share.setter_place.Statement.{statement}
 use Rattle.allocation.proofs.share.setter_place.Tie as tie

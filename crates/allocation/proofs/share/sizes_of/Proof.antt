@@ -9,7 +9,8 @@ use lib.ListN.{length, getD, drop, drop-of-length-le}
 use lib.Seq.{drop-cons}
 use Rattle.units.specs.Lists.{total}
 use Rattle.parts.specs.Key.{sharesIn}
-use Rattle.dividing.proofs.Walking.{Put, put-none, put-more, put-done, map-more, map-done}
+use Rattle.units.proofs.Columns.{Put, put-none, put-more, put-done}
+use Rattle.dividing.proofs.Walking.{map-more, map-done}
 use Rattle.allocation.proofs.Gets.{shares-most}
 use Rattle.allocation.proofs.share.sizes_of.Statement.{statement}
 use Rattle.allocation.proofs.share.sizes_of.Tie as tie

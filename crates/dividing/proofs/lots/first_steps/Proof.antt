@@ -8,7 +8,8 @@ use lib.ListN.{length, drop}
 use Rattle.units.specs.Lists.{sum}
 use Rattle.dividing.specs.Columns.{firstOf}
 use Rattle.dividing.proofs.Reciprocal.{product-fits}
-use Rattle.dividing.proofs.Walking.{Put, put-none, put-more, put-done, map-more, map-done}
+use Rattle.units.proofs.Columns.{Put, put-none, put-more, put-done}
+use Rattle.dividing.proofs.Walking.{map-more, map-done}
 use Rattle.dividing.proofs.LotSteps.{first-within, sum-within, times-least}
 use Rattle.dividing.proofs.lots.first_steps.Statement.{statement}
 use Rattle.dividing.proofs.lots.first_steps.Tie as tie

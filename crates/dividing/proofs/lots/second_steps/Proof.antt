@@ -6,7 +6,8 @@ use borrow.Author.Needs.{needs}
 use lib.ListN.{length, drop}
 use Rattle.units.specs.Lists.{zipWith}
 use Rattle.dividing.specs.Columns.{secondOf}
-use Rattle.dividing.proofs.Walking.{Put, put-none, put-more, put-done, zip-more, zip-done}
+use Rattle.units.proofs.Columns.{Put, put-none, put-more, put-done}
+use Rattle.dividing.proofs.Walking.{zip-more, zip-done}
 use Rattle.dividing.proofs.lots.second_steps.Statement.{statement}
 use Rattle.dividing.proofs.lots.second_steps.Tie as tie
 

@@ -7,7 +7,8 @@ use lib.Dec.{ltb}
 use lib.ListN.{length, getD, drop}
 use Rattle.units.specs.Lists.{zipWith}
 use Rattle.dividing.specs.Columns.{wantAbove}
-use Rattle.dividing.proofs.Walking.{Put, put-none, put-at, put-more, put-done, picked, picked-least, added-more, zip-more, zip-done}
+use Rattle.units.proofs.Columns.{Put, put-none, put-at, put-more, put-done}
+use Rattle.dividing.proofs.Walking.{picked, picked-least, added-more, zip-more, zip-done}
 use Rattle.dividing.proofs.threshold.serve_above.Statement.{statement}
 use Rattle.dividing.proofs.threshold.serve_above.Tie as tie
 

@@ -9,7 +9,8 @@ use borrow.Author.Needs.{needs}
 use lib.ListN.{length, getD, drop}
 use Rattle.units.specs.Lists.{zipWith}
 use Rattle.dividing.specs.Columns.{takesAt, inOrder}
-use Rattle.dividing.proofs.Walking.{Put, put-none, put-at, put-more, put-skip, put-done, added-more, order-more, zip-done}
+use Rattle.units.proofs.Columns.{Put, put-none, put-at, put-more, put-skip, put-done}
+use Rattle.dividing.proofs.Walking.{added-more, order-more, zip-done}
 use Rattle.dividing.proofs.Places.{taken-least}
 use Rattle.dividing.proofs.threshold.serve_equal.Statement.{statement}
 use Rattle.dividing.proofs.threshold.serve_equal.Tie as tie

@@ -5,7 +5,8 @@ use native.Mathlib.Omega.{arith}
 use borrow.Author.Needs.{needs}
 use lib.ListN.{length, drop}
 use Rattle.dividing.specs.Columns.{mayTake, inOrder}
-use Rattle.dividing.proofs.Walking.{Put, put-none, put-more, put-done, order-more, order-done}
+use Rattle.units.proofs.Columns.{Put, put-none, put-more, put-done}
+use Rattle.dividing.proofs.Walking.{order-more, order-done}
 use Rattle.dividing.proofs.Turning.{time-alone}
 use Rattle.dividing.proofs.turns.by_time.Statement.{statement}
 use Rattle.dividing.proofs.turns.by_time.Tie as tie

@@ -4,7 +4,8 @@ use mathlib.Core.List.{map}
 use native.Mathlib.Omega.{arith}
 use borrow.Author.Needs.{needs}
 use lib.ListN.{length, drop}
-use Rattle.dividing.proofs.Walking.{Put, put-none, put-more, put-done, map-more, map-done}
+use Rattle.units.proofs.Columns.{Put, put-none, put-more, put-done}
+use Rattle.dividing.proofs.Walking.{map-more, map-done}
 use Rattle.dividing.proofs.turns.clear.Statement.{statement}
 use Rattle.dividing.proofs.turns.clear.Tie as tie
 

@@ -4,21 +4,16 @@ use mathlib.Core.Path.{_≡_, refl}
 use mathlib.Core.Bool.{Bool, true, false}
 use borrow.Author.Needs.{needs}
 use Rattle.units.specs.Lists.{orZero}
-use Rattle.orders.specs.declared.order.Side.{Side}
-use Rattle.orders.specs.declared.order.Side.the-variants.{Buy, Sell}
 use Rattle.orders.specs.declared.order.Kind.{Kind}
 use Rattle.orders.specs.declared.order.Kind.the-variants.{Displayed, NonDisplayed, MinimumQuantity}
-use Rattle.orders.specs.Order.{sideNumber, kindNumber}
+use Rattle.orders.specs.Order.{kindNumber}
 use Rattle.record.specs.Codec.{encode}
 use Rattle.record.specs.Record.{numbersOf}
+use Rattle.record.proofs.Rows.{side-byte}
 use Rattle.record.proofs.order_record.bytes_of.Statement.{statement}
 use Rattle.record.proofs.order_record.bytes_of.Tie as tie
 
--- the numbers of a side, a kind and a setter mark are bytes
-side-byte : (s : Side) → sideNumber s % 256 ≡ sideNumber s
-side-byte Buy = refl
-side-byte Sell = refl
-
+-- the numbers of a kind and a setter mark are bytes
 kind-byte : (k : Kind) → kindNumber k % 256 ≡ kindNumber k
 kind-byte Displayed = refl
 kind-byte NonDisplayed = refl

@@ -1,4 +1,4 @@
--- `settlement::clear` meets its contract: the first i zeros stand in the book.
+-- `record::bytes::clear` meets its contract: the first i zeros stand in dst.
 use Prim.Native.Nat.{ℕ, _+_, _-_, _≤_}
 use mathlib.Core.Path.{_≡_, sym}
 use mathlib.Core.List.{List}
@@ -6,18 +6,18 @@ use native.Mathlib.Omega.{arith}
 use borrow.Author.Needs.{needs}
 use lib.ListN.{length, replicate, length-replicate, getD-replicate}
 use lib.Seq.{paste, paste-zero}
 use Rattle.record.proofs.Pasting.{paste-more, paste-long, paste-done}
-use Rattle.settlement.proofs.clear.Statement.{statement}
-use Rattle.settlement.proofs.clear.Tie as tie
+use Rattle.record.proofs.bytes.clear.Statement.{statement}
+use Rattle.record.proofs.bytes.clear.Tie as tie
 
 abbrev Inv-loop : tie.InvT-loop
-Inv-loop book₀ at count i₀ book i = (i ≤ count) × (book ≡ paste book₀ at (replicate count 0) i)
+Inv-loop dst₀ at count i₀ dst i = (i ≤ count) × (dst ≡ paste dst₀ at (replicate count 0) i)
 
 abbrev μ-loop : tie.MeasureT-loop
-μ-loop book₀ at count i₀ book i = count - i
+μ-loop dst₀ at count i₀ dst i = count - i
 
 loop-holds : tie.Need-loop-holds Inv-loop μ-loop
-loop-holds c = let a = c .args in (search needs, paste-zero (a .book .now) (a .at) (replicate (a .count) 0))
+loop-holds c = let a = c .args in (search needs, paste-zero (a .dst .now) (a .at) (replicate (a .count) 0))
 
 -- Where i zeros were written.
 module _ (c : tie.At-loop Inv-loop μ-loop) where
@@ -29,16 +29,16 @@ module _ (c : tie.At-loop Inv-loop μ-loop) where
   many : length zeros ≡ c .before .args .count
   many = length-replicate (c .before .args .count) 0
 
-  -- they have room in the book
-  room : c .before .args .at + length zeros ≤ length (c .before .args .book .now)
+  -- they have room in it
+  room : c .before .args .at + length zeros ≤ length (c .before .args .dst .now)
   room = omega (arith, many)
 
   -- no more were written
   within : c .loop .i ≤ length zeros
   within = omega (arith, many)
 
-  -- the book is as long as it was
-  long : length (c .loop .book) ≡ length (c .before .args .book .now)
+  -- the list is as long as it was
+  long : length (c .loop .dst) ≡ length (c .before .args .dst .now)
   long = paste-long _ _ _ room _ _ (c .loop .inv .1) within
 
 loop-again : tie.Need-loop-again Inv-loop μ-loop

@@ -1,0 +1,14 @@
+pub mod Ranks
+pub mod Inserting
+pub mod Stretches
+pub mod Keys
+pub mod Telling
+pub mod Bytes
+pub mod Walking
+pub mod Making
+pub mod Told
+pub mod New
+pub mod Keeping
+pub mod Forms
+pub mod TakeForm
+pub mod EntryForms

@@ -1,0 +1,125 @@
+-- Worked values of the calls that make and keep a ladder, computed by the checker.
+use Prim.Native.Nat.{ℕ}
+use mathlib.Core.Path.{_≡_, refl}
+use mathlib.Core.Bool.{Bool, true, _&&_}
+use mathlib.Core.List.{List, [], _∷_}
+use lib.ListN.{getD, drop, set, replicate}
+use lib.Dec.{eqb}
+use Rattle.units.specs.Lists.{all, sameNumbers}
+use Rattle.orders.specs.Order.{withInterest, settled}
+use Rattle.record.specs.Codec.{encode, decode}
+use Rattle.record.specs.Record.{numbersOf, orderOf, numbersSound}
+use Rattle.book.specs.Sound.{sound, ordersOf, bookOf}
+use Rattle.sharing.specs.Round.{round, goesRound}
+use Rattle.sharing.specs.Lots.{lotSharing}
+use Rattle.sharing.specs.Setter.{setterSharing, besideSetter}
+use Rattle.matching.specs.Levels.{priceLevels}
+use Rattle.matching.specs.Paragraph.{partOf}
+use Rattle.matching.specs.Take.{outcome, lossesOf, executionsOf, allocations, allocationsOver, allocationsAt, allocationAt}
+use Rattle.matching.specs.TakeCall.{outcomeOf, written, takeCall}
+use Rattle.entry.specs.Add.{requested, setsPrice, added, addCall}
+use Rattle.entry.specs.Reduce.{reduced, reduceCall}
+use Rattle.ladder.specs.Rows.{rowOf, joined, rowsOf}
+use Rattle.ladder.specs.Ladder.{ladderOf, madeOf, ladderCall, Kept, TakeKept, addLadderCall, reduceLadderCall, takeLadderCall}
+
+-- order 7, a displayed sell of 500 at 100100, and order 9, a hidden one of 400 at 100000
+add : ℕ → ℕ → ℕ → ℕ → ℕ → List ℕ → List ℕ → Kept
+add side kind n price size s l = addLadderCall (record { side = side; kind = kind; number = n; price = price; size = size; minimum = 0 }) s l
+
+empty : Kept
+empty = record { refusal = 0; book = replicate 96 0; ladder = replicate 6144 0 }
+
+one : Kept
+one = add 2 1 7 100100 500 (empty .book) (empty .ladder)
+
+two : Kept
+two = add 2 2 9 100000 400 (one .book) (one .ladder)
+
+-- the ladder is kept along
+kept-worked : all (λ b. b)
+    (eqb (two .refusal) 0 ∷
+    sameNumbers (two .ladder) (madeOf (two .book)) ∷
+    eqb (getD (two .ladder) 4 0) 0xa0 ∷
+    eqb (getD (two .ladder) 28 0) 0x04 ∷ []) ≡ true
+unfolding two one empty add addLadderCall addCall added setsPrice requested sound ordersOf bookOf ladderOf rowsOf rowOf joined encode decode numbersOf orderOf numbersSound
+kept-worked = refl
+
+refusal : Kept → ℕ → Bool
+refusal k n = eqb (k .refusal) n
+
+-- refused, and nothing changed
+leaves : Kept → ℕ → List ℕ → List ℕ → Bool
+leaves k n s l = refusal k n && sameNumbers (k .book) s && sameNumbers (k .ladder) l
+
+-- a ladder of 255 rows, of 257, and one with a wrong last byte
+short : List ℕ
+short = replicate 6120 0
+
+long : List ℕ
+long = replicate 6168 0
+
+wrong : List ℕ
+wrong = set (two .ladder) 6143 1
+
+-- a byte behind the orders is not zero
+unsound : List ℕ
+unsound = set (two .book) 95 1
+
+-- the new call: 2 before 9, and never 10
+new-worked : all (λ b. b)
+    (eqb (ladderCall unsound short .refusal) 2 ∷
+    eqb (ladderCall (two .book) [] .refusal) 9 ∷
+    eqb (ladderCall (two .book) short .refusal) 9 ∷
+    eqb (ladderCall (two .book) long .refusal) 9 ∷
+    sameNumbers (ladderCall (two .book) long .ladder) long ∷
+    eqb (ladderCall (two .book) wrong .refusal) 0 ∷
+    sameNumbers (ladderCall (two .book) (replicate 6144 255) .ladder) (two .ladder) ∷ []) ≡ true
+unfolding unsound wrong short long ladderCall two one empty add addLadderCall addCall added setsPrice requested sound ordersOf bookOf ladderOf rowsOf rowOf joined encode decode numbersOf orderOf numbersSound
+new-worked = refl
+
+-- a form: 1, then 2, then 9, then 10, then what the plain call is refused
+order-worked : all (λ b. b)
+    (refusal (add 3 1 9 5 5 unsound short) 1 ∷
+    refusal (add 1 1 9 5 5 unsound short) 2 ∷
+    refusal (add 1 1 9 5 5 (two .book) short) 9 ∷
+    refusal (add 1 1 9 5 5 (two .book) long) 9 ∷
+    refusal (add 1 1 9 5 5 (two .book) (one .ladder)) 10 ∷
+    leaves (add 1 1 9 5 5 (two .book) (two .ladder)) 4 (two .book) (two .ladder) ∷
+    refusal (reduceLadderCall 8 5 (two .book) (one .ladder)) 10 ∷
+    refusal (reduceLadderCall 8 5 (two .book) (two .ladder)) 3 ∷ []) ≡ true
+unfolding refusal leaves unsound short long reduceLadderCall reduceCall reduced withInterest settled two one empty add addLadderCall addCall added setsPrice requested sound ordersOf bookOf ladderOf rowsOf rowOf joined encode decode numbersOf orderOf numbersSound
+order-worked = refl
+
+-- the ladder is compared to its last byte
+tail-worked : leaves (add 1 1 10 5 5 (two .book) wrong) 10 (two .book) wrong ≡ true
+unfolding refusal leaves wrong two one empty add addLadderCall addCall added setsPrice requested sound ordersOf bookOf ladderOf rowsOf rowOf joined encode decode numbersOf orderOf numbersSound
+tail-worked = refl
+
+-- a level's only order leaves, and its row with it; then the ladder is that of the one order before
+left-worked : let k = reduceLadderCall 9 400 (two .book) (two .ladder) in
+    (refusal k 0 && sameNumbers (k .book) (one .book) && sameNumbers (k .ladder) (one .ladder)) ≡ true
+unfolding refusal reduceLadderCall reduceCall reduced withInterest settled two one empty add addLadderCall addCall added setsPrice requested sound ordersOf bookOf ladderOf rowsOf rowOf joined encode decode numbersOf orderOf numbersSound
+left-worked = refl
+
+-- a buy up to a limit under pro rata, with an execution buffer
+take : ℕ → ℕ → List ℕ → TakeKept
+take limit size x = takeLadderCall (record { side = 1; limit = limit; size = size; algorithm = 2 }) (two .book) x (two .ladder)
+
+-- one level emptied and the next thinned, of two kinds; and nothing within the limit
+taken-worked : let k = take 100100 600 (replicate 32 0) in
+    (eqb (k .taken .refusal) 0
+    && eqb (k .taken .count) 2
+    && sameNumbers (k .ladder) (madeOf (k .book))
+    && eqb (getD (k .ladder) 4 0) 0x04
+    && eqb (getD (k .ladder) 8 0) 44
+    && sameNumbers (drop 24 (k .ladder)) (replicate 6120 0)
+    && sameNumbers (take 99999 600 [] .ladder) (two .ladder)
+    && eqb (take 99999 600 [] .taken .left) 600) ≡ true
+unfolding take takeLadderCall takeCall written outcomeOf outcome lossesOf executionsOf allocations allocationsOver allocationsAt allocationAt partOf priceLevels setterSharing besideSetter lotSharing round goesRound withInterest settled two one empty add addLadderCall addCall added setsPrice requested sound ordersOf bookOf ladderOf rowsOf rowOf joined encode decode numbersOf orderOf numbersSound
+taken-worked = refl
+
+-- without room for its executions it leaves the ladder
+no-room-worked : let k = take 100100 600 (replicate 31 0) in
+    (eqb (k .taken .refusal) 8 && eqb (k .taken .count) 0 && sameNumbers (k .ladder) (two .ladder) && sameNumbers (k .executions) (replicate 31 0)) ≡ true
+unfolding take takeLadderCall takeCall written outcomeOf outcome lossesOf executionsOf allocations allocationsOver allocationsAt allocationAt partOf priceLevels setterSharing besideSetter lotSharing round goesRound withInterest settled two one empty add addLadderCall addCall added setsPrice requested sound ordersOf bookOf ladderOf rowsOf rowOf joined encode decode numbersOf orderOf numbersSound
+no-room-worked = refl

@@ -1,0 +1,27 @@
+-- An order's place in the ladder as one number, for the functions that put orders in order. No call's meaning rests on it.
+use Prim.Native.Nat.{ℕ, suc, _+_, _-_, _*_, _/_, _%_}
+use mathlib.Core.List.{List, [], _∷_}
+use Rattle.orders.specs.declared.order.Side.{Side}
+use Rattle.orders.specs.declared.order.Side.the-variants.{Buy, Sell}
+use Rattle.orders.specs.declared.order.Order.{Order}
+use Rattle.orders.specs.Order.{priceOf}
+
+-- sells by their price, buys behind them, the higher the price the lower: no price is above 2,000,000,000
+abbrev pub rankOf : Side → ℕ → ℕ
+rankOf Sell price = price
+rankOf Buy price = 4294967295 - price
+
+-- the rank of its level, and the place of its record, below 256
+abbrev pub keyOf : ℕ → Order → ℕ
+keyOf place o = 256 * rankOf (o .side) (priceOf o) + place
+
+abbrev pub rankIn : ℕ → ℕ
+rankIn key = key / 256
+
+abbrev pub placeIn : ℕ → ℕ
+placeIn key = key % 256
+
+-- the keys of orders, the first at a place
+unfoldable pub keysFrom : ℕ → List Order → List ℕ
+keysFrom place [] = []
+keysFrom place (o ∷ os) = keyOf place o ∷ keysFrom (suc place) os

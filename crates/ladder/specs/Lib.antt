@@ -1,0 +1,10 @@
+pub mod Row
+pub mod Rows
+pub mod Key
+pub mod Ladder
+pub mod Along
+pub mod Seen
+pub mod Depth
+pub mod Examples
+pub mod CallExamples
+pub mod DepthExamples

@@ -1,0 +1,21 @@
+-- What a form sees of book and ladder before it decides, for the function that looks. No call's meaning rests on it.
+use Prim.Native.Nat.{ℕ}
+use mathlib.Core.List.{List}
+use lib.ListN.{length}
+use Rattle.units.specs.Lists.{orZero}
+use Rattle.book.specs.Sound.{ordersOf}
+use Rattle.book.specs.Refusal.{refusalOf, isAccepted}
+use Rattle.book.specs.Lookup.{checkRefusals}
+use Rattle.ladder.specs.declared.Seen.{Seen}
+use Rattle.ladder.specs.Rows.{rowsOf}
+use Rattle.ladder.specs.Ladder.{withLadder}
+
+-- 2, 9, 10, and the numbers of orders and of rows
+unfoldable pub seenOf : List ℕ → List ℕ → Seen
+seenOf s l =
+    let r = refusalOf (withLadder s l checkRefusals) s in
+    record {
+      refusal = r;
+      orders = orZero (isAccepted r) (length (ordersOf s));
+      rows = orZero (isAccepted r) (length (rowsOf (ordersOf s)));
+    }

@@ -1,0 +1,12 @@
+-- `lookup::count` meets its contract: there is an order for each occupied record.
+use mathlib.Core.Path.{sym, _∙_}
+use borrow.Author.Needs.{needs}
+use Rattle.book.proofs.Checking.{orders-count}
+use Rattle.lookup.proofs.count.Statement.{statement}
+use Rattle.lookup.proofs.count.Tie as tie
+
+returns : tie.Need-returns
+returns c = c .count-occupied .ensures .0 ∙ sym (orders-count (c .before .before .args .book .now))
+
+pub count-spec : {M : Type 1} → statement M
+count-spec = tie.close (tie.spec (λ c κs. search needs) returns)

@@ -1,0 +1,144 @@
+//! The ladder: what a book's orders come to at each side and price, in a lent
+//! buffer beside the book, and the forms of add, reduce and take that keep it.
+
+use crate::book::{self, Order, Side};
+use crate::{calls, take, Refusal};
+
+pub const ROW_LENGTH: usize = 24;
+pub const LADDER_LENGTH: usize = 256 * ROW_LENGTH;
+
+const ROW_MARK: [u8; 2] = [0x4C, 0x44];
+
+/// What the orders of one side and price come to.
+#[derive(Clone, Copy, Debug, PartialEq, Eq)]
+pub struct Row {
+    pub side: Side,
+    pub price: u32,
+    /// Shares of displayed orders.
+    pub displayed: u32,
+    /// Shares of non-displayed and minimum quantity orders.
+    pub other: u32,
+    pub orders: u16,
+}
+
+/// Writes the book's ladder, whatever stood in the buffer. Gives the refusal
+/// number.
+pub fn ladder(book: &[u8], ladder: &mut [u8]) -> u32 {
+    match ladder_of(book, ladder.len()) {
+        Ok(bytes) => {
+            ladder.copy_from_slice(&bytes);
+            0
+        }
+        Err(refusal) => refusal as u32,
+    }
+}
+
+/// Add that keeps the ladder. Takes side, kind, number, price, size and minimum.
+pub fn add_ladder(book: &mut [u8], ladder: &mut [u8], order: [u32; 6]) -> u32 {
+    let [side, kind, number, price, size, minimum] = order;
+    keeping(book, ladder, |book| {
+        calls::add(book, side, kind, number, price, size, minimum)
+    })
+}
+
+/// Reduce that keeps the ladder.
+pub fn reduce_ladder(book: &mut [u8], ladder: &mut [u8], number: u32, shares: u32) -> u32 {
+    keeping(book, ladder, |book| calls::reduce(book, number, shares))
+}
+
+/// Take that keeps the ladder. Takes side, limit, size and algorithm.
+pub fn take_ladder(
+    book: &mut [u8],
+    executions: &mut [u8],
+    ladder: &mut [u8],
+    incoming: [u32; 4],
+) -> (u32, u32, u32) {
+    let [side, limit, size, algorithm] = incoming;
+    let mut written = executions.to_vec();
+    let mut taken = (0, 0, 0);
+    let refusal = keeping(book, ladder, |book| {
+        taken = take::take(book, &mut written, side, limit, size, algorithm);
+        taken.0
+    });
+    if refusal != 0 {
+        return (refusal, 0, 0);
+    }
+    executions.copy_from_slice(&written);
+    taken
+}
+
+/// Makes a plain call on a copy of the book. If neither the call nor the ladder
+/// is a reason to refuse, the book becomes that copy, and the ladder the copy's.
+/// The refusals on account of the ladder stand directly behind 2.
+fn keeping(book: &mut [u8], ladder: &mut [u8], plain: impl FnOnce(&mut [u8]) -> u32) -> u32 {
+    let mut after = book.to_vec();
+    let of_call = plain(&mut after);
+    if of_call == Refusal::OutOfRange as u32 || of_call == Refusal::UnsoundBook as u32 {
+        return of_call;
+    }
+    match ladder_of(book, ladder.len()) {
+        Err(refusal) => return refusal as u32,
+        Ok(bytes) if bytes != ladder => return Refusal::LadderOfAnotherBook as u32,
+        Ok(_) if of_call != 0 => return of_call,
+        Ok(_) => {}
+    }
+    book.copy_from_slice(&after);
+    self::ladder(book, ladder)
+}
+
+/// The bytes that a book's ladder has in a buffer of so many.
+fn ladder_of(book: &[u8], length: usize) -> Result<Vec<u8>, Refusal> {
+    let orders = book::read(book)?;
+    if length != LADDER_LENGTH {
+        return Err(Refusal::LadderLength);
+    }
+    let mut bytes = vec![0; LADDER_LENGTH];
+    for (place, row) in bytes.chunks_exact_mut(ROW_LENGTH).zip(rows(&orders)) {
+        place.copy_from_slice(&row.bytes());
+    }
+    Ok(bytes)
+}
+
+/// A row for each side and price that an order has: sells with rising price,
+/// then buys with falling price.
+pub fn rows(orders: &[Order]) -> Vec<Row> {
+    let rank = |order: &Order| match order.side {
+        Side::Sell => (1, i64::from(order.price)),
+        Side::Buy => (2, -i64::from(order.price)),
+    };
+    let mut ranked = orders.to_vec();
+    ranked.sort_by_key(rank);
+    ranked
+        .chunk_by(|one, next| rank(one) == rank(next))
+        .map(Row::of)
+        .collect()
+}
+
+impl Row {
+    /// The row of orders that have the same side and price.
+    fn of(orders: &[Order]) -> Row {
+        let shares = |displayed: bool| {
+            let of_kind = orders.iter().filter(|o| o.is_displayed() == displayed);
+            of_kind.map(|order| order.size).sum()
+        };
+        Row {
+            side: orders[0].side,
+            price: orders[0].price,
+            displayed: shares(true),
+            other: shares(false),
+            orders: orders.len() as u16,
+        }
+    }
+
+    /// The row's 24 bytes.
+    fn bytes(&self) -> [u8; ROW_LENGTH] {
+        let mut row = [0; ROW_LENGTH];
+        row[0..2].copy_from_slice(&ROW_MARK);
+        row[2] = self.side as u8;
+        row[4..8].copy_from_slice(&self.price.to_le_bytes());
+        row[8..12].copy_from_slice(&self.displayed.to_le_bytes());
+        row[12..16].copy_from_slice(&self.other.to_le_bytes());
+        row[16..18].copy_from_slice(&self.orders.to_le_bytes());
+        row
+    }
+}
