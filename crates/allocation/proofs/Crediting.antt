@@ -19,7 +19,8 @@ use Rattle.matching.specs.Incoming.{executed}
 use Rattle.parts.specs.Key.{placeIn, withShares}
 use Rattle.parts.proofs.Keys.{with-group, with-place, with-shares}
 use Rattle.allocation.proofs.Places.{take-within}
-use Rattle.allocation.specs.Walk.{executionIn, executionsFrom, executionOf, fillsOf}
+use Rattle.parts.specs.Execution.{executionIn, executionOf}
+use Rattle.allocation.specs.Walk.{executionsFrom, fillsOf}
 use Rattle.allocation.specs.Credit.{Ledger, ledger, leftIn, logged, Room, Credited}
 use Rattle.allocation.proofs.Gets.{fills-append, executions-append, got-append, got-within}
 use Rattle.allocation.proofs.Places.{total-next}

@@ -11,7 +11,8 @@ use Rattle.units.proofs.Tests.{pick-least}
 use Rattle.units.proofs.Totals.{cons-append}
 use Rattle.orders.specs.declared.order.Order.{Order}
 use Rattle.parts.specs.Key.{placeIn, sharesIn, withShares}
-use Rattle.allocation.specs.Walk.{executionIn, executionsFrom, fillsOf, gotAt}
+use Rattle.parts.specs.Execution.{executionIn}
+use Rattle.allocation.specs.Walk.{executionsFrom, fillsOf, gotAt}
 
 -- fills of keys one behind another
 pub fills-append : (keys later gets more : List ℕ) → length gets ≡ length keys → fillsOf (keys ++ later) (gets ++ more) ≡ fillsOf keys gets ++ fillsOf later more

@@ -16,7 +16,8 @@ use Rattle.orders.specs.declared.order.Order.{Order}
 use Rattle.orders.specs.Order.{priceOf}
 use Rattle.matching.specs.Take.{executionsBy}
 use Rattle.parts.specs.Key.{groupIn, paragraphIn, placeIn}
-use Rattle.allocation.specs.Walk.{partIn, executionIn, executionsFrom, gotAt}
+use Rattle.parts.specs.Execution.{executionIn}
+use Rattle.allocation.specs.Walk.{partIn, executionsFrom, gotAt}
 use Rattle.allocation.proofs.LeftOut.{Idle}
 
 module _ (at : ℕ → Order) (price group bound : ℕ) where

@@ -10,7 +10,8 @@ use Rattle.record.specs.declared.execution.Execution.{Execution}
 use Rattle.matching.specs.Incoming.{executed}
 use Rattle.parts.specs.Key.{placeIn}
 use Rattle.allocation.specs.declared.Progress.{Progress}
-use Rattle.allocation.specs.Walk.{executionOf, executionsFrom, fillsOf, gotAt}
+use Rattle.parts.specs.Execution.{executionOf}
+use Rattle.allocation.specs.Walk.{executionsFrom, fillsOf, gotAt}
 
 -- How far an incoming order has come, with the lent fills and the lent allotment.
 pub record Ledger : Type 0 where

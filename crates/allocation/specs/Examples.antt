@@ -25,7 +25,7 @@ use Rattle.book.specs.Sound.{sound, ordersOf, bookOf, orderAt}
 use Rattle.matching.specs.declared.Algorithm.the-variants.{PriceTime, ProRata}
 use Rattle.matching.specs.Paragraph.{paragraphNumber}
 use Rattle.parts.specs.Key.{keyOf, groupIn, placeIn, sharesIn}
-use Rattle.allocation.specs.Walk.{paragraphOf, partIn, executionIn, executionsFrom, executionOf, sharedBy, Walks, none, ended, next, fillsOf, gotAt}
+use Rattle.allocation.specs.Walk.{paragraphOf, partIn, executionsFrom, sharedBy, Walks, none, ended, next, fillsOf, gotAt}
 use Rattle.allocation.specs.Stretch.{groupAt, Parted, Whole, Ends}
 use Rattle.allocation.specs.Credit.{Ledger, ledger, leftIn, logged, Room, Credited}
 use Rattle.allocation.specs.Ready.{Ascending, Stands}
@@ -97,8 +97,6 @@ told es = flatMap (λ e. e .number ∷ e .price .0 ∷ e .shares .0 ∷ e .parag
 
 named : List Bool
 named =
-    sameNumbers (told (executionIn at third 120 ∷ [])) (11 ∷ 100100 ∷ 120 ∷ 5 ∷ []) ∷
-    sameNumbers (told (executionOf at (keyOf 100100 5 2 120) ∷ [])) (11 ∷ 100100 ∷ 120 ∷ 5 ∷ []) ∷
     -- of those that got shares
     sameNumbers (told (executionsFrom at parts (100 ∷ 0 ∷ 1 ∷ []))) (7 ∷ 100000 ∷ 100 ∷ 2 ∷ 11 ∷ 100100 ∷ 1 ∷ 5 ∷ []) ∷
     sameNumbers (told (executionsFrom at parts (300 ∷ []))) (7 ∷ 100000 ∷ 300 ∷ 2 ∷ []) ∷

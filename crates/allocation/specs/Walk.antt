@@ -15,6 +15,7 @@ use Rattle.matching.specs.declared.Paragraph.{Paragraph}
 use Rattle.matching.specs.Paragraph.{methodOf}
 use Rattle.matching.specs.Numbered.{paragraphNumbered}
 use Rattle.parts.specs.Key.{groupIn, paragraphIn, placeIn, sharesIn, withShares}
+use Rattle.parts.specs.Execution.{executionIn}
 
 -- the paragraph of a group
 abbrev pub paragraphOf : ℕ → Paragraph
@@ -28,21 +29,11 @@ module _ (at : ℕ → Order) where
       let o = at (placeIn key) in
       record { number = o .number; size = sharesIn key; minimum = minimumOf (o .kind); setter = o .setter }
 
-  -- the execution of n shares of a part: it names the paragraph of its group
-  abbrev pub executionIn : ℕ → ℕ → Execution
-  executionIn key n =
-      let o = at (placeIn key) in
-      record { number = o .number; price = o .price; shares = record { 0 = n }; paragraph = paragraphIn (groupIn key) }
-
-  -- one for each part that received shares
+  -- an execution for each part that received shares
   abbrev pub executionsFrom : List ℕ → List ℕ → List Execution
   executionsFrom [] gets = []
   executionsFrom (k ∷ keys) [] = []
-  executionsFrom (k ∷ keys) (n ∷ gets) = consIf (ltb 0 n) (executionIn k n) (executionsFrom keys gets)
-
-  -- the execution that a fill is of: a part with the shares that it got
-  abbrev pub executionOf : ℕ → Execution
-  executionOf fill = executionIn fill (sharesIn fill)
+  executionsFrom (k ∷ keys) (n ∷ gets) = consIf (ltb 0 n) (executionIn at k n) (executionsFrom keys gets)
 
   module _ (lot : ℕ) (alg : Algorithm) where
     -- what the parts of a group get of the shares left

@@ -1,7 +1,7 @@
 -- Worked values of keys, of the parts of orders, and of those that are needed, computed by the checker.
-use Prim.Native.Nat.{ℕ, zero, suc}
+use Prim.Native.Nat.{ℕ, zero, suc, _+_}
 use mathlib.Core.Path.{_≡_, refl}
-use mathlib.Core.Bool.{Bool, true, false, not}
+use mathlib.Core.Bool.{Bool, true, false, not, _&&_}
 use mathlib.Core.List.{List, [], _∷_}
 use native.Mathlib.Omega.{arith}
 use lib.ListN.{length}
@@ -12,9 +12,11 @@ use Rattle.orders.specs.declared.order.Side.the-variants.{Buy, Sell}
 use Rattle.orders.specs.declared.order.Kind.{Kind}
 use Rattle.orders.specs.declared.order.Kind.the-variants.{Displayed, NonDisplayed, MinimumQuantity}
 use Rattle.orders.specs.declared.order.Order.{Order}
+use Rattle.record.specs.declared.execution.Execution.{Execution}
 use Rattle.matching.specs.declared.Algorithm.the-variants.{PriceTime, ProRata, PriceSetter}
 use Rattle.matching.specs.declared.incoming.Incoming.{Incoming}
 use Rattle.parts.specs.Key.{keyOf, rankIn, groupIn, paragraphIn, placeIn, sharesIn, withShares}
+use Rattle.parts.specs.Execution.{executionIn, executionOf}
 use Rattle.parts.specs.Parts.{rankOn, proRataParagraph, paragraphFor, partKey, mayMeet, keysFrom}
 use Rattle.parts.specs.Narrowed.{minimumParagraph, ofRank, freeShares, Narrowed, all, best}
 
@@ -48,6 +50,20 @@ keys =
 keys-worked : allOf (λ b. b) keys ≡ true
 unfolding keys
 keys-worked = refl
+
+-- orders 10, 11, 12 .. at a price each
+at : ℕ → Order
+at place = record { side = Sell; kind = Displayed; number = 10 + place; price = record { 0 = 100000 + place }; size = record { 0 = 500 }; setter = false }
+
+-- of an execution the number, price, shares and paragraph
+told : Execution → List ℕ
+told e = e .number ∷ e .price .0 ∷ e .shares .0 ∷ e .paragraph ∷ []
+
+-- 120 shares of a part in paragraph 5, whatever its own shares; and a fill with its shares
+executions-worked : (sameNumbers (told (executionIn at (keyOf 3 5 2 400) 120)) (12 ∷ 100002 ∷ 120 ∷ 5 ∷ [])
+    && sameNumbers (told (executionOf at (keyOf 3 5 2 120))) (12 ∷ 100002 ∷ 120 ∷ 5 ∷ [])) ≡ true
+unfolding at told
+executions-worked = refl
 
 least : ℕ → Kind
 least m = MinimumQuantity (record { 0 = m })

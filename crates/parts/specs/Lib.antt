@@ -1,4 +1,5 @@
 pub mod Key
+pub mod Execution
 pub mod Parts
 pub mod Narrowed
 pub mod Arranged

@@ -17,7 +17,7 @@ use Rattle.record.specs.Execution.{encodeExecution}
 use Rattle.record.proofs.Executions.{length-execution}
 use Rattle.matching.specs.TakeCall.{written}
 use Rattle.parts.specs.Key.{groupIn, paragraphIn, placeIn, sharesIn}
-use Rattle.allocation.specs.Walk.{executionOf}
+use Rattle.parts.specs.Execution.{executionOf}
 use Rattle.record.proofs.Filling.{Filled, filled-none, filled-more, filled-done}
 
 -- an execution, as its numbers were read

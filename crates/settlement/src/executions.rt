@@ -15,7 +15,7 @@ ghost use Rattle.units.proofs.Members.{Every};
 ghost use Rattle.book.specs.Sound.{sound, ordersOf, orderAt};
 ghost use Rattle.matching.specs.TakeCall.{written};
 ghost use Rattle.parts.specs.Key.{placeIn};
-ghost use Rattle.allocation.specs.Walk.{executionOf};
+ghost use Rattle.parts.specs.Execution.{executionOf};
 
 // The execution of a part with the shares that it got.
 fn execution_of(book: &[u8], fill: u64) -> Execution
@@ -33,7 +33,7 @@ fn execution_of(book: &[u8], fill: u64) -> Execution
 }
 
 // The executions of the fills go into a buffer, from its start.
-pub fn write(book: &[u8], fills: &[u64], executions: &mut [u8])
+pub(crate) fn write(book: &[u8], fills: &[u64], executions: &mut [u8])
     requires { ⌜ (sound (now book) ≡ true)
         × Every (λ k. placeIn k < length (ordersOf (now book))) (now fills)
         × (16 * length (now fills) ≤ length (now executions)) ⌝ }

@@ -27,7 +27,8 @@ use Rattle.matching.specs.TakeCall.{requestInRange, incomingOf, outcomeOf, writ
 use Rattle.parts.specs.Key.{placeIn, withShares}
 use Rattle.parts.proofs.Keys.{with-place}
 use Rattle.parts.specs.Arranged.{Arranged}
-use Rattle.allocation.specs.Walk.{Walks, executionOf, fillsOf}
+use Rattle.parts.specs.Execution.{executionOf}
+use Rattle.allocation.specs.Walk.{Walks, fillsOf}
 use Rattle.allocation.specs.Credit.{Ledger, ledger, leftIn, Room}
 use Rattle.allocation.specs.Sharing.{Book, Walked}
 use Rattle.allocation.proofs.Arranging.{arranged-ready}

@@ -6,8 +6,6 @@ use matching::incoming::Incoming;
 use orders::order::Side;
 use orders::order::Taker;
 use orders::range;
-use record::execution::EXECUTION_BYTES;
-use settlement::executions;
 use units::Price;
 use units::Shares;
 ghost use mathlib.Core.Path.{_≡_};
@@ -95,19 +93,15 @@ fn take_in(
         spare,
         allotment,
     );
-    let count = reached.count;
-    if executions.len() / EXECUTION_BYTES < count {
-        return refused(8);
-    }
     let order = reached.incoming;
-    let left = order.size;
-    executions::write(book, &spare[..count], executions);
-    settlement::settle(book, n, allotment, allotment);
-    Taken {
-        refusal: 0,
-        count: count as u32,
-        left: left.0,
-    }
+    settlement::commit(
+        book,
+        executions,
+        n,
+        &spare[..reached.count],
+        allotment,
+        order.size,
+    )
 }
 
 // Memory for a few parts, and for as many as a book can have: two for each order.

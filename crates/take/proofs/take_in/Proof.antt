@@ -1,18 +1,18 @@
--- `take::take_in` meets its contract: what was allocated is the outcome, refused where it has no room, and else written.
-use Prim.Native.Nat.{ℕ, _/_, _≤_}
-use mathlib.Core.Path.{_≡_, sym, ap, _∙_}
+-- `take::take_in` meets its contract: what was allocated is the outcome, and is made.
+use Prim.Native.Nat.{ℕ, _≤_}
+use mathlib.Core.Path.{_≡_, sym, _∙_}
 use mathlib.Core.List.{List}
 use native.Mathlib.Omega.{arith}
 use borrow.Author.Needs.{needs}
 use lib.ListN.{length, take}
 use lib.Seq.{length-take-le}
 use Rattle.record.proofs.Numbers.{are-bytes}
-use Rattle.book.specs.Sound.{ordersOf, bookOf, capacityOf}
+use Rattle.book.specs.Sound.{ordersOf}
 use Rattle.book.proofs.Checking.{sound-fits}
 use Rattle.parts.specs.Arranged.{Arranged}
 use Rattle.allocation.specs.Credit.{Ledger, ledger}
-use Rattle.take.proofs.Answers.{refused-room, accepted}
 use Rattle.take.proofs.Deciding.{arranged-book, arranged-room, Decided, decided}
+use Rattle.take.proofs.Committing.{committed}
 use Rattle.take.proofs.Idle.{idle}
 use Rattle.take.proofs.take_in.Statement.{statement}
 use Rattle.take.proofs.take_in.Tie as tie
@@ -94,66 +94,48 @@ module _ (d : tie.After-allocate) where
       decided (a .request) (a .book .now) (g .inRange) (g .isSound) (order p .incoming-of .ensures) (alg p .of .ensures) (lot p .round-lot .ensures) (arranged p) (few p)
       {end = end} (st .pre .1 .nothing) room (d .allocate .ensures)
 
-returns-2 : tie.Need-returns-2
-returns-2 c =
-    let d = c .before .before .before .before .before .before .before .before .before .before .before .before in
-    let a = st d .args in
-    let g = st d .pre .0 in
-    rw (c .refused .ensures)
-    (refused-room (a .request) (a .book .now) (a .executions .now) (g .inRange) (g .isSound) (omega (arith, done d .count, c .before .if2 .taken)))
+-- Where it is made as it was decided.
+abbrev allocated : tie.After-commit-arg2 → tie.After-allocate
+allocated c = c .before .before .before .before .before .before .before .before .before .before .before .before .before
+
+abbrev made : tie.After-slice-known17 → tie.After-commit
+made c = c .before .before .before .before
+
+abbrev allocated-before : tie.After-slice-known17 → tie.After-allocate
+allocated-before c = allocated (made c .before .before .before)
 
 slice-aggregate-allocate : tie.Need-slice-aggregate-allocate
 slice-aggregate-allocate c = sym (long (c .before .before .before .before .before .before .before))
 
--- the executions have room in the buffer
-has-room : (e : tie.Else2) → let d = e .before .before .before .before .before .before .before .before .before .before .before in end d .progress .count ≤ length (st d .args .executions .now) / 16
-has-room e = e .if2 .left
+slice-reshare-prefix-commit : tie.Need-slice-reshare-prefix-commit
+slice-reshare-prefix-commit c = done (allocated c) .fits
 
-write-requires : tie.Need-write-requires
-write-requires c κs =
-    let e = c .before .before .before .before .before in
-    let d = e .before .before .before .before .before .before .before .before .before .before .before in
-    let a = st d .args in
-    let g = st d .pre .0 in (
-      g .isSound,
-      done d .places,
-      omega (arith, length-take-le (end d .progress .count) (end d .fills) (done d .fits), has-room e),
-    )
+slice-aggregate-commit : tie.Need-slice-aggregate-commit
+slice-aggregate-commit c = sym (length-take-le _ _ (done (allocated (c .before)) .fits))
 
-settle-requires : tie.Need-settle-requires
-settle-requires c κs =
-    let d = c .before .before .before .before .before .before .before .before .before .before .before .before .before .before .before .before .before .before .before .before .before in
+commit-requires : tie.Need-commit-requires
+commit-requires c κs =
+    let d = allocated (c .before .before) in
     let g = st d .pre .0 in
-    (g .isSound, g .counted, omega (arith, g .counted, room d), omega (arith, g .counted, room d))
+    let e = done d in
+    (g .isSound, g .counted, e .places, omega (arith, e .few, length-take-le (end d .progress .count) (end d .fills) (e .fits)), omega (arith, g .counted, room d))
 
-cast : tie.Need-cast-t55
-cast c =
-    let d = c .before .before .before .before .before .before .before .before .before .before .before .before .before .before .before .before .before .before .before .before .before .before .before .before in
-    omega (arith, done d .few)
-
-returns-3 : tie.Need-returns-3
-returns-3 c =
-    let t = c .before .before in
-    let w = t .before .before .before .before .before in
-    let d = w .before .before .before .before .before .before .before .before .before .before .before .before .before .before .before .before .before in
+returns-2 : tie.Need-returns-2
+returns-2 c =
+    let d = allocated-before c in
     let a = st d .args in
     let g = st d .pre .0 in
-    accepted (a .request) (a .book .now) (a .executions .now) (g .inRange) (g .isSound) (done d .count)
-    (done d .left)
-    (t .settle .ensures ∙ ap (bookOf (capacityOf (a .book .now))) (done d .orders (a .n) (g .counted)))
-    (w .write .ensures ∙ done d .written (a .executions .now))
-    (omega (arith, has-room (w .before .before .before .before .before .before)))
+    let m = made c .commit .ensures in
+    committed (a .request) (a .book .now) (a .executions .now) (g .inRange) (g .isSound) (done d) (g .counted) (m .0) (m .1)
 
 pub take-in-spec : {M : Type 1} → statement M
 take-in-spec =
     tie.close
     (tie.spec
     (λ c κs. search needs) (λ c κs. search needs) (λ c κs. search needs) (λ c κs. search needs)
-    (λ c. search needs) (λ c. search needs) (λ c. search needs) returns (λ c. search needs) slice-aggregate-allocate
-    allocate-requires (λ c κs. search needs)
-    (λ c. search needs) (λ c. search needs) (λ c. search needs) (λ c. search needs) (λ c. search needs) (λ c. search needs) (λ c. search needs) returns-2
-    (λ c. done (c .before .before .before .before .before .before .before .before .before .before .before .before .before .before) .fits) (λ c. sym (length-take-le _ _ (done (c .before .before .before .before .before .before .before .before .before .before .before .before .before .before .before) .fits))) write-requires settle-requires cast
+    (λ c. search needs) (λ c. search needs) (λ c. search needs) returns (λ c. search needs) slice-aggregate-allocate allocate-requires
+    slice-reshare-prefix-commit slice-aggregate-commit commit-requires
     (λ c. search needs) (λ c. search needs)
-    (λ c. c .before .before .before .before .before .before .before .before .before .before .before .before .before .before .before .before .before .before .before .before .before .before .before .before .before .before .before .before .before .before .before .before .before .before .before .before .before .arrange .kept .1 .1 .1 .1 .1 .0)
-    (λ c. c .before .before .before .before .before .before .before .before .before .before .before .before .before .before .before .before .before .before .before .before .before .before .before .before .allocate .kept .1 .1 .1 .1 .1 .1 .1 .1 .0 ∙ c .before .before .before .before .before .before .before .before .before .before .before .before .before .before .before .before .before .before .before .before .before .before .before .before .before .before .before .before .before .before .before .before .before .before .before .before .before .arrange .kept .1 .1 .1 .1 .1 .1 .0)
-    (λ c. search needs) (λ c. search needs) (λ c. search needs) (λ c. search needs) returns-3)
+    (λ c. p (allocated-before c) .arrange .kept .1 .1 .1 .1 .1 .0)
+    (λ c. allocated-before c .allocate .kept .1 .1 .1 .1 .1 .1 .1 .1 .0 ∙ p (allocated-before c) .arrange .kept .1 .1 .1 .1 .1 .1 .0)
+    (λ c. search needs) (λ c. search needs) (λ c. search needs) (λ c. search needs) returns-2)

@@ -7,7 +7,7 @@ use lib.ListN.{length}
 use Rattle.record.specs.Execution.{encodeExecution}
 use Rattle.book.specs.Sound.{ordersOf, orderAt}
 use Rattle.parts.specs.Key.{placeIn}
-use Rattle.allocation.specs.Walk.{executionOf}
+use Rattle.parts.specs.Execution.{executionOf}
 use Rattle.units.proofs.Members.{every-at}
 use Rattle.settlement.proofs.Writing.{Writing, writing-none, writing-more, writing-done}
 use Rattle.settlement.proofs.executions.write.Statement.{statement}
