@@ -123,3 +123,14 @@ no-room-worked : let k = take 100100 600 (replicate 31 0) in
     (eqb (k .taken .refusal) 8 && eqb (k .taken .count) 0 && sameNumbers (k .ladder) (two .ladder) && sameNumbers (k .executions) (replicate 31 0)) ≡ true
 unfolding take takeLadderCall takeCall written outcomeOf outcome lossesOf executionsOf allocations allocationsOver allocationsAt allocationAt partOf priceLevels setterSharing besideSetter lotSharing round goesRound withInterest settled two one empty add addLadderCall addCall added setsPrice requested sound ordersOf bookOf ladderOf rowsOf rowOf joined encode decode numbersOf orderOf numbersSound
 no-room-worked = refl
+
+-- with another book's ladder it takes nothing, where the plain take has two executions
+other-ladder-worked : let k = takeLadderCall (record { side = 1; limit = 100100; size = 600; algorithm = 2 }) (two .book) (replicate 32 0) (one .ladder) in
+    (eqb (k .taken .refusal) 10
+    && eqb (k .taken .count) 0
+    && eqb (k .taken .left) 0
+    && sameNumbers (k .book) (two .book)
+    && sameNumbers (k .executions) (replicate 32 0)
+    && sameNumbers (k .ladder) (one .ladder)) ≡ true
+unfolding takeLadderCall takeCall written outcomeOf outcome lossesOf executionsOf allocations allocationsOver allocationsAt allocationAt partOf priceLevels setterSharing besideSetter lotSharing round goesRound withInterest settled two one empty add addLadderCall addCall added setsPrice requested sound ordersOf bookOf ladderOf rowsOf rowOf joined encode decode numbersOf orderOf numbersSound
+other-ladder-worked = refl
