@@ -21,6 +21,7 @@ use Rattle.entry.specs.Add.{requested, setsPrice, added, addCall}
 use Rattle.entry.specs.Reduce.{reduced, reduceCall}
 use Rattle.ladder.specs.Rows.{rowOf, joined, rowsOf}
 use Rattle.ladder.specs.Ladder.{ladderOf, madeOf, ladderCall, Kept, TakeKept, addLadderCall, reduceLadderCall, takeLadderCall}
+use Rattle.ladder.specs.Seen.{seenOf}
 
 -- order 7, a displayed sell of 500 at 100100, and order 9, a hidden one of 400 at 100000
 add : ℕ → ℕ → ℕ → ℕ → ℕ → List ℕ → List ℕ → Kept
@@ -34,6 +35,10 @@ one = add 2 1 7 100100 500 (empty .book) (empty .ladder)
 
 two : Kept
 two = add 2 2 9 100000 400 (one .book) (one .ladder)
+
+-- and order 10, a displayed sell of 100 at 100000, with which the book is full
+three : Kept
+three = add 2 1 10 100000 100 (two .book) (two .ladder)
 
 -- the ladder is kept along
 kept-worked : all (λ b. b)
@@ -90,6 +95,20 @@ order-worked : all (λ b. b)
 unfolding refusal leaves unsound short long reduceLadderCall reduceCall reduced withInterest settled two one empty add addLadderCall addCall added setsPrice requested sound ordersOf bookOf ladderOf rowsOf rowOf joined encode decode numbersOf orderOf numbersSound
 order-worked = refl
 
+-- so with 5, 6 and 7: behind 9 and 10
+behind-worked : all (λ b. b)
+    (refusal (add 1 1 11 100000 5 (two .book) short) 9 ∷
+    refusal (add 1 1 11 100000 5 (two .book) (one .ladder)) 10 ∷
+    refusal (add 1 1 11 100000 5 (two .book) (two .ladder)) 5 ∷
+    refusal (add 1 1 11 5 5 (three .book) short) 9 ∷
+    refusal (add 1 1 11 5 5 (three .book) (two .ladder)) 10 ∷
+    refusal (add 1 1 11 5 5 (three .book) (three .ladder)) 6 ∷
+    refusal (reduceLadderCall 9 401 (two .book) short) 9 ∷
+    refusal (reduceLadderCall 9 401 (two .book) (one .ladder)) 10 ∷
+    refusal (reduceLadderCall 9 401 (two .book) (two .ladder)) 7 ∷ []) ≡ true
+unfolding refusal short reduceLadderCall reduceCall reduced withInterest settled three two one empty add addLadderCall addCall added setsPrice requested sound ordersOf bookOf ladderOf rowsOf rowOf joined encode decode numbersOf orderOf numbersSound
+behind-worked = refl
+
 -- the ladder is compared to its last byte
 tail-worked : leaves (add 1 1 10 5 5 (two .book) wrong) 10 (two .book) wrong ≡ true
 unfolding refusal leaves wrong two one empty add addLadderCall addCall added setsPrice requested sound ordersOf bookOf ladderOf rowsOf rowOf joined encode decode numbersOf orderOf numbersSound
@@ -109,6 +128,7 @@ take limit size x = takeLadderCall (record { side = 1; limit = limit; size = siz
 taken-worked : let k = take 100100 600 (replicate 32 0) in
     (eqb (k .taken .refusal) 0
     && eqb (k .taken .count) 2
+    && eqb (getD (k .executions) 16 0) 0x45
     && sameNumbers (k .ladder) (madeOf (k .book))
     && eqb (getD (k .ladder) 4 0) 0x04
     && eqb (getD (k .ladder) 8 0) 44
@@ -124,13 +144,35 @@ no-room-worked : let k = take 100100 600 (replicate 31 0) in
 unfolding take takeLadderCall takeCall written outcomeOf outcome lossesOf executionsOf allocations allocationsOver allocationsAt allocationAt partOf priceLevels setterSharing besideSetter lotSharing round goesRound withInterest settled two one empty add addLadderCall addCall added setsPrice requested sound ordersOf bookOf ladderOf rowsOf rowOf joined encode decode numbersOf orderOf numbersSound
 no-room-worked = refl
 
--- with another book's ladder it takes nothing, where the plain take has two executions
-other-ladder-worked : let k = takeLadderCall (record { side = 1; limit = 100100; size = 600; algorithm = 2 }) (two .book) (replicate 32 0) (one .ladder) in
-    (eqb (k .taken .refusal) 10
+-- refused for the ladder it takes nothing, where the plain take has two executions and leaves 100 shares
+untaken : ℕ → List ℕ → List ℕ → Bool
+untaken n x l =
+    let k = takeLadderCall (record { side = 1; limit = 100100; size = 1000; algorithm = 2 }) (two .book) x l in
+    eqb (k .taken .refusal) n
     && eqb (k .taken .count) 0
     && eqb (k .taken .left) 0
     && sameNumbers (k .book) (two .book)
-    && sameNumbers (k .executions) (replicate 32 0)
-    && sameNumbers (k .ladder) (one .ladder)) ≡ true
-unfolding takeLadderCall takeCall written outcomeOf outcome lossesOf executionsOf allocations allocationsOver allocationsAt allocationAt partOf priceLevels setterSharing besideSetter lotSharing round goesRound withInterest settled two one empty add addLadderCall addCall added setsPrice requested sound ordersOf bookOf ladderOf rowsOf rowOf joined encode decode numbersOf orderOf numbersSound
+    && sameNumbers (k .executions) x
+    && sameNumbers (k .ladder) l
+
+other-ladder-worked : all (λ b. b)
+    (untaken 9 (replicate 32 0) short ∷
+    untaken 10 (replicate 32 0) (one .ladder) ∷
+    -- also where there is no room for the executions
+    untaken 9 (replicate 31 0) short ∷
+    untaken 10 (replicate 31 0) (one .ladder) ∷
+    untaken 8 (replicate 31 0) (two .ladder) ∷ []) ≡ true
+unfolding untaken short takeLadderCall takeCall written outcomeOf outcome lossesOf executionsOf allocations allocationsOver allocationsAt allocationAt partOf priceLevels setterSharing besideSetter lotSharing round goesRound withInterest settled two one empty add addLadderCall addCall added setsPrice requested sound ordersOf bookOf ladderOf rowsOf rowOf joined encode decode numbersOf orderOf numbersSound
 other-ladder-worked = refl
+
+-- what a form sees first: refusals 2, 9 and 10, and else the numbers of orders and of rows
+seen : List ℕ → List ℕ → List ℕ → Bool
+seen s l ns = let k = seenOf s l in sameNumbers (k .refusal ∷ k .orders ∷ k .rows ∷ []) ns
+
+seen-worked : all (λ b. b)
+    (seen unsound short (2 ∷ 0 ∷ 0 ∷ []) ∷
+    seen (two .book) short (9 ∷ 0 ∷ 0 ∷ []) ∷
+    seen (two .book) (one .ladder) (10 ∷ 0 ∷ 0 ∷ []) ∷
+    seen (three .book) (three .ladder) (0 ∷ 3 ∷ 2 ∷ []) ∷ []) ≡ true
+unfolding seen seenOf three unsound short two one empty add addLadderCall addCall added setsPrice requested sound ordersOf bookOf ladderOf rowsOf rowOf joined encode decode numbersOf orderOf numbersSound
+seen-worked = refl

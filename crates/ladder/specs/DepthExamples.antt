@@ -1,19 +1,21 @@
 -- Ladders that don't tell a book's orders: each fails a clause.
 use Prim.Native.Nat.{ℕ}
-use mathlib.Core.Path.{ap}
-use mathlib.Core.Bool.{false, false≢true}
+use mathlib.Core.Path.{_≡_, refl, ap}
+use mathlib.Core.Bool.{true, false, false≢true}
 use mathlib.Core.List.{List, [], _∷_}
 use native.Mathlib.Omega.{arith}
 use lib.Dec.{eqb}
-use Rattle.units.specs.Lists.{flatMap, total}
+use lib.ListN.{length}
+use Rattle.units.specs.Lists.{all, flatMap, total}
 use Rattle.orders.specs.declared.order.Side.{Side}
 use Rattle.orders.specs.declared.order.Side.the-variants.{Buy, Sell}
 use Rattle.orders.specs.declared.order.Kind.the-variants.{Displayed, NonDisplayed}
 use Rattle.orders.specs.declared.order.Order.{Order}
+use Rattle.orders.specs.Order.{sideNumber}
 use Rattle.record.specs.Codec.{encode, decode}
 use Rattle.ladder.specs.declared.row.Row.{Row}
 use Rattle.ladder.specs.Row.{encodeRow, rowFrom}
-use Rattle.ladder.specs.Depth.{Tells}
+use Rattle.ladder.specs.Depth.{rowsAt, ordersAt, Tells}
 
 -- a displayed sell of 30 at 5, and a hidden buy of 20 at 3
 orders : List Order
@@ -39,6 +41,15 @@ misread : Tells orders (bytes (sell ∷ buy ∷ [])) (row Sell 6 30 0 ∷ buy �
 unfolding orders bytes sell buy row encode decode rowFrom
 misread t = let e = ap (total (λ r. r .price .0)) (t .read) in omega arith
 
+-- one row and one order at price 3; two orders in all, and order 1 the only sell
+levels-worked : all (λ b. b)
+    (eqb (length (rowsAt (λ side price. eqb price 3) (sell ∷ buy ∷ []))) 1 ∷
+    eqb (length (ordersAt (λ side price. eqb price 3) orders)) 1 ∷
+    eqb (length (ordersAt (λ side price. true) orders)) 2 ∷
+    eqb (total (λ o. o .number) (ordersAt (λ side price. eqb (sideNumber side) 2) orders)) 1 ∷ []) ≡ true
+unfolding orders sell buy row
+levels-worked = refl
+
 -- a row behind the last
 unclear : Tells orders (bytes (sell ∷ buy ∷ buy ∷ [])) (sell ∷ buy ∷ []) → ⊥
 unfolding orders bytes sell buy row encode
@@ -48,6 +59,10 @@ unclear t = false≢true (t .clear)
 disordered : Tells orders (bytes (buy ∷ sell ∷ [])) (buy ∷ sell ∷ []) → ⊥
 unfolding buy sell row
 disordered t = false≢true (t .ordered)
+
+disordered-behind : Tells orders (bytes (sell ∷ row Buy 2 0 0 ∷ buy ∷ [])) (sell ∷ row Buy 2 0 0 ∷ buy ∷ []) → ⊥
+unfolding buy sell row
+disordered-behind t = false≢true (t .ordered)
 
 twice : Tells orders (bytes (sell ∷ sell ∷ [])) (sell ∷ sell ∷ []) → ⊥
 unfolding sell row

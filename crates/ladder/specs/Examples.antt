@@ -3,7 +3,7 @@ use Prim.Native.Nat.{ℕ}
 use mathlib.Core.Path.{_≡_, refl}
 use mathlib.Core.Bool.{true, false}
 use mathlib.Core.List.{List, [], _∷_, _++_}
-use lib.ListN.{take, drop, replicate}
+use lib.ListN.{take, drop, set, replicate}
 use lib.Dec.{eqb}
 use Rattle.units.specs.Lists.{all, flatMap, sameNumbers}
 use Rattle.orders.specs.declared.order.Side.{Side}
@@ -30,21 +30,23 @@ order side kind number price size = record {
 }
 
 -- the numbers of rows: side, 0, price, displayed and other shares, orders, 0
-numbers : List Row → List ℕ
+unfoldable pub numbers : List Row → List ℕ
 numbers = flatMap form.numbersOf
 
 -- sells rise and buys fall, whatever the order of their records
 sells : List Order
-sells = order Sell Displayed 1 100100 300 ∷ order Sell Displayed 2 100000 100 ∷ []
+sells = order Sell Displayed 1 100200 300 ∷ order Sell Displayed 2 100000 100 ∷ order Sell Displayed 5 100100 200 ∷ []
 
 buys : List Order
-buys = order Buy Displayed 3 99800 30 ∷ order Buy Displayed 4 99900 40 ∷ []
+buys = order Buy Displayed 3 99800 30 ∷ order Buy Displayed 4 99900 40 ∷ order Buy Displayed 6 99700 50 ∷ []
 
-sells-worked : sameNumbers (numbers (rowsOf sells)) (2 ∷ 0 ∷ 100000 ∷ 100 ∷ 0 ∷ 1 ∷ 0 ∷ 2 ∷ 0 ∷ 100100 ∷ 300 ∷ 0 ∷ 1 ∷ 0 ∷ []) ≡ true
+sells-worked : sameNumbers (numbers (rowsOf sells))
+    (2 ∷ 0 ∷ 100000 ∷ 100 ∷ 0 ∷ 1 ∷ 0 ∷ 2 ∷ 0 ∷ 100100 ∷ 200 ∷ 0 ∷ 1 ∷ 0 ∷ 2 ∷ 0 ∷ 100200 ∷ 300 ∷ 0 ∷ 1 ∷ 0 ∷ []) ≡ true
 unfolding numbers sells order rowsOf rowOf joined
 sells-worked = refl
 
-buys-worked : sameNumbers (numbers (rowsOf buys)) (1 ∷ 0 ∷ 99900 ∷ 40 ∷ 0 ∷ 1 ∷ 0 ∷ 1 ∷ 0 ∷ 99800 ∷ 30 ∷ 0 ∷ 1 ∷ 0 ∷ []) ≡ true
+buys-worked : sameNumbers (numbers (rowsOf buys))
+    (1 ∷ 0 ∷ 99900 ∷ 40 ∷ 0 ∷ 1 ∷ 0 ∷ 1 ∷ 0 ∷ 99800 ∷ 30 ∷ 0 ∷ 1 ∷ 0 ∷ 1 ∷ 0 ∷ 99700 ∷ 50 ∷ 0 ∷ 1 ∷ 0 ∷ []) ≡ true
 unfolding numbers buys order rowsOf rowOf joined
 buys-worked = refl
 
@@ -83,6 +85,11 @@ level-worked : sameNumbers (numbers (rowsOf level)) (2 ∷ 0 ∷ 5 ∷ 307 ∷ 2
 unfolding numbers level order rowsOf rowOf joined
 level-worked = refl
 
+-- and of two buys
+bid-level-worked : sameNumbers (numbers (rowsOf (bid ∷ bid ∷ []))) (1 ∷ 0 ∷ 100000 ∷ 20 ∷ 0 ∷ 2 ∷ 0 ∷ []) ≡ true
+unfolding numbers bid order rowsOf rowOf joined
+bid-level-worked = refl
+
 -- 256 orders, whose count has two bytes
 many : Row
 many = record { side = Buy; price = record { 0 = 66051 }; displayed = record { 0 = 255999744 }; other = record { 0 = 9 }; orders = 256 }
@@ -91,7 +98,9 @@ bytes-worked : all (λ b. b)
     (eqb rowBytes 24 ∷
     sameNumbers (encodeRow many)
     (0x4c ∷ 0x44 ∷ 1 ∷ 0 ∷ 3 ∷ 2 ∷ 1 ∷ 0 ∷ 0 ∷ 0x3f ∷ 0x42 ∷ 0x0f ∷ 9 ∷ 0 ∷ 0 ∷ 0 ∷ 0 ∷ 1 ∷ 0 ∷ 0 ∷ 0 ∷ 0 ∷ 0 ∷ 0 ∷ []) ∷
-    sameNumbers (numbers (rowsIn 2 (encodeRow many ++ encodeRow many))) (numbers (many ∷ many ∷ [])) ∷ []) ≡ true
+    sameNumbers (numbers (rowsIn 2 (encodeRow many ++ encodeRow many))) (numbers (many ∷ many ∷ [])) ∷
+    -- and no byte behind these two is read as part of it
+    sameNumbers (numbers (rowsIn 1 (set (encodeRow many) 18 1))) (numbers (many ∷ [])) ∷ []) ≡ true
 unfolding numbers many encode decode rowFrom
 bytes-worked = refl
 

@@ -7,4 +7,5 @@ pub mod Seen
 pub mod Depth
 pub mod Examples
 pub mod CallExamples
+pub mod KeyExamples
 pub mod DepthExamples
