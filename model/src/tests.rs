@@ -9,6 +9,7 @@ mod executions;
 mod keeping;
 mod keeping_refused;
 mod ladders;
+mod leaving;
 mod lines;
 mod paragraphs;
 mod readings;

@@ -127,8 +127,8 @@ fn execute_within<const ORDERS: usize>(
         return Err(Refusal::ExecutionsDoNotFit);
     }
     beside.executed(records, &fills[..count]);
-    if settlement::execute(records, &fills[..count], executions) > 0 {
-        settlement::close_gaps(records);
+    if let Some(first) = settlement::execute(records, &fills[..count], executions) {
+        settlement::close_gaps(records, first);
     }
     Ok((count, left))
 }

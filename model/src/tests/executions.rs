@@ -5,7 +5,7 @@ use crate::{fast, Execution};
 
 /// Take of the plain model, and of the fast one.
 type Take = fn(&mut [u8], &mut [u8], u32, u32, u32, u32) -> (u32, u32, u32);
-const TAKES: [Take; 2] = [crate::take, fast::take];
+pub const TAKES: [Take; 2] = [crate::take, fast::take];
 
 /// An order for each paragraph of the pro rata algorithm, and what each executes
 /// of a buy for all of them.

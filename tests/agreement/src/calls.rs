@@ -78,6 +78,8 @@ pub struct Caller {
     pub mix: [usize; 6],
     /// Whether add, reduce and take come in the forms that keep a ladder.
     pub keeps_ladder: bool,
+    /// Whether an incoming order has about as many shares as the best price.
+    pub for_best: bool,
     /// One in so many calls has a wrong number.
     pub wrong: usize,
     /// How often each algorithm comes.
@@ -105,26 +107,63 @@ impl Caller {
     }
 
     fn take(&self, random: &mut Random, shape: &Shape, orders: &[Order]) -> Call {
-        let rival = (!orders.is_empty()).then(|| orders[random.below(orders.len())]);
-        let (side, limit) = side_and_limit(random, shape, rival);
-        let opposite = orders
-            .iter()
-            .filter(|order| order.side != side && side.within(limit, order.price));
-        let total: u64 = opposite.map(|order| u64::from(order.size)).sum();
-        let total = total.clamp(1, u64::from(LARGEST_SIZE)) as u32;
-        let size = match random.below(12) {
-            0 | 1 => random.within(1..=120),
-            2 | 3 => shape.size(random),
-            4 => total,
-            5 => (total + 1).min(LARGEST_SIZE),
-            6 => LARGEST_SIZE,
-            7 => random.within(total.div_ceil(2)..=total),
-            8 => random.within(1..=total.div_ceil(100)) * 100 % LARGEST_SIZE,
-            _ => random.within(1..=total),
+        let (side, limit, size) = match self.for_best && !orders.is_empty() {
+            true => for_best_price(random, orders),
+            false => for_any_price(random, shape, orders),
         };
         let algorithm = random.weighted(&self.algorithms) as u32 + 1;
         Call::Take([side as u32, limit, size, algorithm])
     }
+}
+
+/// Side, limit and size of an incoming order.
+fn for_any_price(random: &mut Random, shape: &Shape, orders: &[Order]) -> (Side, u32, u32) {
+    let rival = (!orders.is_empty()).then(|| orders[random.below(orders.len())]);
+    let (side, limit) = side_and_limit(random, shape, rival);
+    let within = |order: &Order| order.side != side && side.within(limit, order.price);
+    let total = total_size(orders, within).clamp(1, LARGEST_SIZE);
+    let size = match random.below(12) {
+        0 | 1 => random.within(1..=120),
+        2 | 3 => shape.size(random),
+        4 => total,
+        5 => (total + 1).min(LARGEST_SIZE),
+        6 => LARGEST_SIZE,
+        7 => random.within(total.div_ceil(2)..=total),
+        8 => random.within(1..=total.div_ceil(100)) * 100 % LARGEST_SIZE,
+        _ => random.within(1..=total),
+    };
+    (side, limit, size)
+}
+
+/// Side, limit and size of an incoming order for the best price of a side: mostly
+/// of exactly the shares there, or else of some fewer or more.
+fn for_best_price(random: &mut Random, orders: &[Order]) -> (Side, u32, u32) {
+    let resting = orders[random.below(orders.len())].side;
+    let prices = orders.iter().filter(|order| order.side == resting);
+    let better = |one, other| match resting.is_better(one, other) {
+        true => one,
+        false => other,
+    };
+    let best = prices.map(|order| order.price).reduce(better);
+    let best = best.expect("an order of that side");
+    let total = total_size(orders, |order| order.side == resting && order.price == best);
+    let others = total_size(orders, |order| order.side == resting && order.price != best);
+    let size = match random.below(8) {
+        0 => random.within(1..=total),
+        1 => total - random.within(1..=total) / 2,
+        2 => total + random.within(1..=400),
+        3 => total + random.within(0..=others),
+        _ => total,
+    };
+    let side = opposite(resting);
+    let limit = random.one_of(&[best, limit_beyond_all(side)]);
+    (side, limit, size.min(LARGEST_SIZE))
+}
+
+/// The shares of the orders that fit.
+fn total_size(orders: &[Order], fits: impl Fn(&Order) -> bool) -> u32 {
+    let fitting = orders.iter().filter(|order| fits(order));
+    fitting.map(|order| order.size).sum()
 }
 
 /// The number of an order, or often one beside it.
@@ -169,19 +208,32 @@ fn reduce(random: &mut Random, shape: &Shape, orders: &[Order]) -> Call {
 fn side_and_limit(random: &mut Random, shape: &Shape, rival: Option<Order>) -> (Side, u32) {
     let price = rival.map_or_else(|| shape.price(random), |order| order.price);
     let side = match rival {
-        Some(order) if order.side == Side::Sell => Side::Buy,
-        Some(_) => Side::Sell,
+        Some(order) => opposite(order.side),
         None => random.one_of(&[Side::Buy, Side::Sell]),
     };
-    let limit = match (random.below(6), side) {
-        (0, _) => price.saturating_sub(1).max(1),
-        (1, _) => (price + 1).min(HIGHEST_PRICE),
-        (2, _) => shape.price(random),
-        (3, Side::Buy) => HIGHEST_PRICE,
-        (3, Side::Sell) => 1,
+    let limit = match random.below(6) {
+        0 => price.saturating_sub(1).max(1),
+        1 => (price + 1).min(HIGHEST_PRICE),
+        2 => shape.price(random),
+        3 => limit_beyond_all(side),
         _ => price,
     };
     (side, limit)
+}
+
+fn opposite(side: Side) -> Side {
+    match side {
+        Side::Buy => Side::Sell,
+        Side::Sell => Side::Buy,
+    }
+}
+
+/// The limit with which an order of a side may trade at every price.
+fn limit_beyond_all(side: Side) -> u32 {
+    match side {
+        Side::Buy => HIGHEST_PRICE,
+        Side::Sell => 1,
+    }
 }
 
 /// Makes one of the numbers a wrong one, or at least another.

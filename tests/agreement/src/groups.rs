@@ -11,6 +11,7 @@ const EVEN: [usize; 3] = [1, 1, 1];
 const MIXED: [usize; 6] = [1, 2, 4, 2, 4, 0];
 const MOSTLY_ADD: [usize; 6] = [1, 1, 12, 2, 2, 0];
 const MOSTLY_TAKE: [usize; 6] = [1, 1, 2, 1, 8, 0];
+const ONLY_TAKE: [usize; 6] = [0, 0, 0, 0, 1, 0];
 const LADDERS: [usize; 6] = [0, 0, 4, 3, 4, 1];
 
 fn group(name: &'static str, making: Making, mix: [usize; 6], calls: usize) -> Group {
@@ -22,6 +23,7 @@ fn group(name: &'static str, making: Making, mix: [usize; 6], calls: usize) -> G
         caller: Caller {
             mix,
             keeps_ladder: false,
+            for_best: false,
             wrong: 40,
             algorithms: EVEN,
         },
@@ -58,7 +60,23 @@ pub fn all() -> Vec<Group> {
         group("damaged books", Making::Damaged, MIXED, 12),
     ];
     groups.extend(ladder_groups());
+    groups.extend(leaving_groups());
     groups
+}
+
+/// The groups whose takes are for orders that were chosen to leave, and behind
+/// these for the best price that is left.
+fn leaving_groups() -> [Group; 2] {
+    let leaving = |name| {
+        let mut leaving = group(name, Making::Chosen, ONLY_TAKE, 2);
+        leaving.reshape = Shape::choose;
+        leaving.caller.for_best = true;
+        leaving
+    };
+    let mut keeping = leaving("chosen orders leave beside a ladder");
+    keeping.caller.keeps_ladder = true;
+    keeping.one_in = 2;
+    [leaving("chosen orders leave"), keeping]
 }
 
 /// The groups that keep a ladder beside the book.

@@ -26,6 +26,9 @@ pub enum Making {
     Full,
     /// Full or nearly so, with a price for each order.
     Spread,
+    /// Full, or of fewer orders with free records behind them; some orders of a
+    /// side are better priced than all its others.
+    Chosen,
     /// Of no or hardly any records.
     Tiny,
     Damaged,
@@ -130,6 +133,13 @@ impl Group {
             Making::Spread => {
                 let free = random.one_of(&[0, 0, 1, 2]);
                 shape.spread_book(random, FULL_BOOK, FULL_BOOK - free)
+            }
+            Making::Chosen => {
+                let fewer = random.within(2..=64) as usize;
+                let free = random.one_of(&[1, 2, 16, FULL_BOOK - fewer]);
+                let full = (FULL_BOOK, FULL_BOOK);
+                let (records, orders) = random.one_of(&[full, (fewer + free, fewer)]);
+                shape.chosen_book(random, records, orders)
             }
             Making::Tiny => {
                 let records = random.one_of(&[0, 0, 1, 2, 3]);

@@ -19,6 +19,21 @@ pub enum Sizes {
     Large,
 }
 
+/// Whether the order at a place is one of those that are better priced, in a book
+/// of so many orders.
+type Choice = fn(&mut Random, usize, usize) -> bool;
+
+const CHOICES: [Choice; 8] = [
+    |_, place, _| place % 2 == 0,
+    |_, place, _| place % 2 == 1,
+    |_, place, _| place == 0,
+    |_, place, orders| place == orders / 2,
+    |_, place, orders| place == orders - 1,
+    |_, _, _| true,
+    |random, _, _| random.once_in(2),
+    |random, _, _| random.once_in(10),
+];
+
 /// What the orders of a book look like.
 #[derive(Clone, Copy)]
 pub struct Shape {
@@ -43,7 +58,7 @@ impl Shape {
     pub fn random(random: &mut Random, kinds: [usize; 3]) -> Shape {
         let levels = random.one_of(&[1, 1, 2, 3, 5, 40, 600]);
         let step = random.one_of(&[1, 100, 256]);
-        let highest = HIGHEST_PRICE - 2 * levels * step;
+        let highest = highest_start(levels, step);
         Shape {
             levels,
             sizes: random.one_of(&[
@@ -76,6 +91,14 @@ impl Shape {
         match side {
             Side::Sell if !self.overlap => self.lowest + self.step * (self.levels - 1 + level),
             _ => self.lowest + self.step * level,
+        }
+    }
+
+    /// The price so many levels behind a side's best.
+    fn price_behind_best(&self, side: Side, levels: u32) -> u32 {
+        match side {
+            Side::Buy => self.price_at(side, self.levels - 1 - levels),
+            Side::Sell => self.price_at(side, levels),
         }
     }
 
@@ -127,6 +150,25 @@ impl Shape {
         marked_book(random, records, placed)
     }
 
+    /// As a built book, but some orders of a side are better priced than all its
+    /// others. The shape has several levels.
+    pub fn chosen_book(&self, random: &mut Random, records: usize, orders: usize) -> Vec<u8> {
+        let mut placed = self.orders(random, orders);
+        let side = random.one_of(&self.sides);
+        let choice = random.one_of(&CHOICES);
+        for (place, order) in placed.iter_mut().enumerate() {
+            let levels = match choice(random, place, orders) {
+                true => {
+                    order.side = side;
+                    0
+                }
+                false => random.within(1..=self.levels - 1),
+            };
+            order.price = self.price_behind_best(order.side, levels);
+        }
+        marked_book(random, records, placed)
+    }
+
     /// So many orders, by rising number and without marks.
     fn orders(&self, random: &mut Random, orders: usize) -> Vec<Order> {
         let mut next = random.one_of(&[1, 1_000, u32::MAX - 3 * 256]);
@@ -143,9 +185,21 @@ impl Shape {
 
     /// Makes room for a book in which every order has a price of its own.
     pub fn spread(&mut self) {
-        self.levels = SPREAD_LEVELS;
-        let highest = HIGHEST_PRICE - 2 * SPREAD_LEVELS * self.step;
-        self.lowest = self.lowest.min(highest);
+        self.set_levels(SPREAD_LEVELS);
+    }
+
+    /// Makes room for a book in which some orders are better priced than others, and
+    /// of which a take can fill every order.
+    pub fn choose(&mut self) {
+        self.set_levels(self.levels.max(2));
+        if matches!(self.sizes, Sizes::Large) {
+            self.sizes = Sizes::AroundLots;
+        }
+    }
+
+    fn set_levels(&mut self, levels: u32) {
+        self.levels = levels;
+        self.lowest = self.lowest.min(highest_start(levels, self.step));
     }
 
     /// A book of so many records after so many tries to add an order.
@@ -157,6 +211,11 @@ impl Shape {
         }
         book
     }
+}
+
+/// The highest price from which the levels of both sides have room.
+fn highest_start(levels: u32, step: u32) -> u32 {
+    HIGHEST_PRICE - 2 * levels * step
 }
 
 /// A book of these orders, some of them marked.

@@ -3,6 +3,7 @@
 mod divisions;
 mod groups;
 mod ladders;
+mod leaving;
 mod paragraphs;
 mod setters;
 mod takes;
@@ -59,6 +60,7 @@ pub fn expected() -> Coverage {
     paragraphs::expect(&mut coverage);
     divisions::expect(&mut coverage);
     setters::expect(&mut coverage);
+    leaving::expect(&mut coverage);
     ladders::expect(&mut coverage);
     coverage
 }
@@ -105,6 +107,7 @@ pub fn note(coverage: &mut Coverage, entry: &Entry, outcome: &Outcome) {
             paragraphs::note(coverage, &take, &before);
             divisions::note(coverage, &take);
             setters::note(coverage, entry, &before, &take);
+            leaving::note(coverage, entry, &take, [&before, &after]);
         }
         _ => {}
     }

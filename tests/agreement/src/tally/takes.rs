@@ -47,7 +47,7 @@ fn passed_over_by(algorithm: u32) -> String {
 
 /// An accepted take.
 pub struct Take {
-    side: Side,
+    pub side: Side,
     size: u32,
     pub algorithm: u32,
     pub executions: Vec<Execution>,
