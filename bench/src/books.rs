@@ -52,6 +52,16 @@ pub fn displayed(count: u32, many_prices: bool) -> Vec<Order> {
         .collect()
 }
 
+/// Displayed sells of mixed sizes, those at some places a cent better priced than
+/// the others.
+pub fn better_at(count: u32, is_better: impl Fn(u32) -> bool) -> Vec<Order> {
+    let mut orders = displayed(count, false);
+    for (order, place) in orders.iter_mut().zip(0..) {
+        order.price = price(u32::from(!is_better(place)));
+    }
+    orders
+}
+
 /// Displayed sells, each better priced than those before it.
 pub fn improving(count: u32) -> Vec<Order> {
     (0..count)

@@ -3,6 +3,7 @@
 use crate::books::{self, price, BEST_PRICE};
 use crate::calls::Call;
 use crate::ladders;
+use crate::leaving;
 use model::book::Order;
 
 #[derive(Clone)]
@@ -70,6 +71,7 @@ pub fn all() -> Vec<Case> {
         cases.extend(takes_of_minimums(algorithm));
         cases.extend(takes_of_groups(algorithm));
     }
+    cases.extend(leaving::cases());
     cases.extend(ladders::cases());
     cases
 }
@@ -143,7 +145,7 @@ fn adds() -> impl Iterator<Item = Case> {
 }
 
 /// A buy within every price of the orders.
-fn take(
+pub fn take(
     algorithm: u32,
     book_name: impl Into<String>,
     orders: &[Order],

@@ -8,6 +8,7 @@ mod books;
 mod calls;
 mod cases;
 mod ladders;
+mod leaving;
 mod machine;
 mod measure;
 mod plot;
