@@ -39,7 +39,8 @@ impl Outcome {
 pub struct Lending {
     /// Where the buffers lie if the call is made a second time.
     pub again: Option<Edge>,
-    /// Whether a call that only reads the book gets one that can't be written.
+    /// Whether what stays of a book can't be written: all of it by a call that
+    /// only reads, and by a take each page in which every record stays.
     pub read_only: bool,
 }
 
@@ -114,15 +115,22 @@ impl Borrower {
         let model = by_model(entry);
         for edge in [Some(Edge::End), lending.again].into_iter().flatten() {
             let library = self
-                .outcome(entry, edge, lending.read_only)
+                .outcome(entry, &model.book, edge, lending.read_only)
                 .map_err(|word| format!("{word}\n{}", describe(entry)))?;
             compare(entry, &model, &library)?;
         }
         Ok(model)
     }
 
-    /// The library's outcome, or a word on bytes beside a buffer that changed.
-    fn outcome(&mut self, entry: &Entry, edge: Edge, read_only: bool) -> Result<Outcome, String> {
+    /// The library's outcome, or a word on bytes beside a buffer that changed. The
+    /// book should have these bytes then.
+    fn outcome(
+        &mut self,
+        entry: &Entry,
+        after: &[u8],
+        edge: Edge,
+        read_only: bool,
+    ) -> Result<Outcome, String> {
         let mut book = self.books.lend(&entry.book, edge);
         let mut executions = self.executions.lend(&entry.executions, edge);
         let mut ladder = self.ladders.lend(&entry.ladder, edge);
@@ -133,6 +141,9 @@ impl Borrower {
             Call::Find([number]) => library::find(book.bytes(), number),
             Call::Add(numbers) => library::add(book.bytes(), numbers),
             Call::Reduce([number, shares]) => library::reduce(book.bytes(), number, shares),
+            Call::Take(numbers) if read_only => book.keeping(after, |book| {
+                library::take(book, executions.bytes(), numbers)
+            }),
             Call::Take(numbers) => library::take(book.bytes(), executions.bytes(), numbers),
             Call::Ladder if read_only => {
                 book.read_only(|book| library::ladder(book, ladder.bytes()))
@@ -142,6 +153,9 @@ impl Borrower {
             Call::ReduceLadder([number, shares]) => {
                 library::reduce_ladder(book.bytes(), ladder.bytes(), number, shares)
             }
+            Call::TakeLadder(numbers) if read_only => book.keeping(after, |book| {
+                library::take_ladder(book, executions.bytes(), ladder.bytes(), numbers)
+            }),
             Call::TakeLadder(numbers) => {
                 let executions = executions.bytes();
                 library::take_ladder(book.bytes(), executions, ladder.bytes(), numbers)

@@ -1,5 +1,6 @@
 //! Buffers between pages that may not be touched.
 
+use model::book::RECORD_LENGTH;
 use std::ffi::{c_int, c_void};
 use std::io::Write;
 use std::sync::atomic::{AtomicU64, Ordering};
@@ -99,6 +100,39 @@ impl Loan<'_> {
         let answer = reader(&self.room[self.start..self.start + self.length]);
         protect(self.room.as_mut_ptr(), self.room.len(), PROT_READ_WRITE);
         answer
+    }
+
+    /// Lends the bytes to a call that leaves these in their place. A page in which
+    /// every record stays may not be written meanwhile.
+    pub fn keeping<T>(&mut self, after: &[u8], call: impl FnOnce(&mut [u8]) -> T) -> T {
+        let kept = self.kept_pages(after);
+        self.protect_pages(&kept, PROT_READ);
+        let answer = call(self.bytes());
+        self.protect_pages(&kept, PROT_READ_WRITE);
+        answer
+    }
+
+    /// The pages whose records, those included that begin or end in another page,
+    /// have these bytes already.
+    fn kept_pages(&mut self, after: &[u8]) -> Vec<usize> {
+        let (start, length) = (self.start, self.length);
+        let before = self.bytes();
+        let within = |place: usize| place.saturating_sub(start).min(length);
+        let is_kept = |page: &usize| {
+            let from = within(page * PAGE) / RECORD_LENGTH * RECORD_LENGTH;
+            let to = within((page + 1) * PAGE).next_multiple_of(RECORD_LENGTH);
+            let part = from..to.min(length);
+            before[part.clone()] == after[part]
+        };
+        (0..(start + length).div_ceil(PAGE))
+            .filter(is_kept)
+            .collect()
+    }
+
+    fn protect_pages(&mut self, pages: &[usize], protection: c_int) {
+        for page in pages {
+            protect(self.room[page * PAGE..].as_mut_ptr(), PAGE, protection);
+        }
     }
 
     /// Whether the bytes beside the buffer are as they were.

@@ -92,9 +92,13 @@ impl Group {
                 executions,
                 ladder: lent.bytes,
             };
-            let outcome = borrower.agreed(&entry, lending(seed, &mut random))?;
+            let lending = lending(seed, &mut random);
+            let outcome = borrower.agreed(&entry, lending)?;
             keeper.keep(&entry, &outcome)?;
             tally::note(coverage, &entry, &outcome);
+            if lending.read_only {
+                tally::note_kept(coverage, &entry, &outcome);
+            }
             if let Some((wrong, refusal)) = lent.wrong {
                 if outcome.refusal() == refusal {
                     coverage.note(tally::refused_ladder(wrong, refusal));

@@ -26,8 +26,18 @@ pub fn touch(what: &str, length: usize) {
         "behind" => lender.lend(&bytes, Edge::End).touch(length as isize),
         "before" => lender.lend(&bytes, Edge::Start).touch(-1),
         "read-only" => lender.lend(&bytes, Edge::End).write_read_only(),
+        "kept" => write_changing_last(&mut lender, &bytes, 0),
+        "changed" => write_changing_last(&mut lender, &bytes, length - 1),
         _ => lender.lend(&bytes, Edge::End).touch(length as isize - 1),
     }
+}
+
+/// Writes a byte of a buffer that is lent to a call which changes the last.
+fn write_changing_last(lender: &mut Lender, bytes: &[u8], place: usize) {
+    let mut after = bytes.to_vec();
+    *after.last_mut().expect("a byte") ^= 1;
+    let mut loan = lender.lend(bytes, Edge::End);
+    loan.keeping(&after, |bytes| bytes[place] ^= 1);
 }
 
 /// Whether a child that touches a byte ends as it should.
@@ -139,6 +149,10 @@ pub fn run(report: &mut Report, borrower: &mut Borrower) {
     report.check("a touch before a buffer is fatal", before);
     let write = each("read-only", &LENGTHS[1..], true);
     report.check("a write into a read-only buffer is fatal", write);
+    let kept = each("kept", &LENGTHS[3..], true);
+    report.check("a write into a page that stays is fatal", kept);
+    let changed = each("changed", &LENGTHS[1..], false);
+    report.check("a write into a page that changes is not", changed);
     let inside = each("inside", &LENGTHS[1..], false);
     report.check("a touch inside a buffer is not", inside);
     report.check("a write beside a buffer is seen", margin_is_watched());

@@ -38,6 +38,11 @@ const OCCASIONS: [&str; 6] = [
     "book whose sides overlap",
 ];
 
+/// What of a full book could not be written in a take, and stays.
+const FIRST_HALF_KEPT: &str = "the first 128 not writable, one behind them changed";
+const SECOND_HALF_KEPT: &str = "the last 128 not writable, one before them changed";
+const BOTH_HALVES_KEPT: &str = "none writable, none changed";
+
 /// The counts that every full run has to raise above 0.
 pub fn expected() -> Coverage {
     let mut coverage = Coverage::default();
@@ -62,7 +67,16 @@ pub fn expected() -> Coverage {
     setters::expect(&mut coverage);
     leaving::expect(&mut coverage);
     ladders::expect(&mut coverage);
+    for call in ["take", "take_ladder"] {
+        for half in [FIRST_HALF_KEPT, SECOND_HALF_KEPT, BOTH_HALVES_KEPT] {
+            coverage.expect(kept(call, half));
+        }
+    }
     coverage
+}
+
+fn kept(call: &str, half: &str) -> String {
+    format!("{call}: of 256 records, {half}")
 }
 
 pub fn refused_damage(damage: &str) -> String {
@@ -111,6 +125,24 @@ pub fn note(coverage: &mut Coverage, entry: &Entry, outcome: &Outcome) {
         }
         _ => {}
     }
+}
+
+/// Notes a take from a full book of which what stays could not be written. Each
+/// half of the book is a page.
+pub fn note_kept(coverage: &mut Coverage, entry: &Entry, outcome: &Outcome) {
+    if !matches!(entry.call.plain(), Call::Take(_)) || entry.book.len() != LONGEST_BOOK {
+        return;
+    }
+    let half = LONGEST_BOOK / 2;
+    let first_stays = entry.book[..half] == outcome.book[..half];
+    let second_stays = entry.book[half..] == outcome.book[half..];
+    let name = match (first_stays, second_stays) {
+        (true, true) => BOTH_HALVES_KEPT,
+        (true, false) => FIRST_HALF_KEPT,
+        (false, true) => SECOND_HALF_KEPT,
+        (false, false) => return,
+    };
+    coverage.note(kept(entry.call.name(), name));
 }
 
 fn note_book(coverage: &mut Coverage, entry: &Entry, orders: &[Order]) {
