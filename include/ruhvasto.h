@@ -46,11 +46,11 @@ extern "C" {
 #define RUHVASTO_NO_NULL
 #endif
 
-/* The version of this interface. It rises with every change that a caller can notice. */
-#define RUHVASTO_VERSION 4
+/* The version of this interface. It rises with every change that a caller can notice, and with every change request. */
+#define RUHVASTO_VERSION 5
 
 /* The last change request that the library has; 0 is the base, without any. */
-#define RUHVASTO_REQUESTS 2
+#define RUHVASTO_REQUESTS 3
 
 /* Bytes of stack that are enough for a call that is lent a ladder, for take, and for every other call. */
 #define RUHVASTO_LADDER_STACK_BYTES 16000

@@ -4,7 +4,7 @@ use crate::books::{self, BEST_PRICE};
 use crate::cases::{self, Case, FULL};
 use model::book::Order;
 
-const CALL_NAME: &str = "take from 256 orders, few change or many leave, algorithm 1 (price/time)";
+const CALL_NAME: &str = "take, few orders change or many leave (price/time)";
 const PRICE_TIME: u32 = 1;
 
 const FIRST: u32 = 0;

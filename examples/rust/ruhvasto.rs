@@ -2,7 +2,7 @@
 //! says, never NULL, and two that are lent at once to be written never overlap: so these functions are safe.
 
 /// The version of the interface that this module is written for.
-pub const VERSION: u32 = 4;
+pub const VERSION: u32 = 5;
 
 pub const RECORD_BYTES: usize = 32;
 pub const EXECUTION_BYTES: usize = 16;

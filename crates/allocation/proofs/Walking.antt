@@ -5,9 +5,9 @@ use mathlib.Core.List.{List, [], _∷_, _++_, map, append-nil, List·Memᴰ, Lis
 use native.Mathlib.Omega.{arith}
 use lib.ListN.{length, getD}
 use borrow.Author.Tests.{eq-eqb, ne-eqb}
-use Rattle.units.specs.Lists.{filter, consIf, sum, total}
+use Rattle.units.specs.Lists.{filter, sum, total}
 use Rattle.units.proofs.Members.{Every, every-member, every-weaken, every-both, every-append, every-split, filter-all, filter-none}
-use Rattle.units.proofs.Totals.{total-append, cons-append}
+use Rattle.units.proofs.Totals.{total-append, filter-append}
 use Rattle.orders.specs.declared.order.Order.{Order}
 use Rattle.orders.specs.declared.order.Side.{Side}
 use Rattle.book.proofs.Soundness.{OrdersSound}
@@ -117,12 +117,6 @@ module _ (lot : ℕ) (hasLot : 0 < lot) (alg : Algorithm) (i : Incoming) (at : �
   not-first c cs h (List·Memᴰ·head e) = absurd (omega arith)
   not-first c cs h (List·Memᴰ·tail m) = m
 
-  -- the keys of a group, behind others
-  filter-append : (p : ℕ) (keys later : List ℕ) → filter (ofGroup p) (keys ++ later) ≡ filter (ofGroup p) keys ++ filter (ofGroup p) later
-  filter-append p [] later = refl
-  filter-append p (k ∷ keys) later =
-      ap (consIf (ofGroup p k) k) (filter-append p keys later) ∙ cons-append (ofGroup p k) k (filter (ofGroup p) keys) (filter (ofGroup p) later)
-
   none-of : (p : ℕ) (keys : List ℕ) → Every (λ k. p < groupIn k) keys → filter (ofGroup p) keys ≡ []
   none-of p keys a = filter-none (ofGroup p) keys (every-weaken (λ k h. ne-eqb (groupIn k) p (λ e. omega arith)) keys a)
 
@@ -130,14 +124,14 @@ module _ (lot : ℕ) (hasLot : 0 < lot) (alg : Algorithm) (i : Incoming) (at : �
   first-group : (p : ℕ) (keys later : List ℕ) → Every (λ k. groupIn k ≡ p) keys → Every (λ k. p < groupIn k) later
       → filter (ofGroup p) (keys ++ later) ≡ keys
   first-group p keys later a c =
-      filter-append p keys later
+      filter-append (ofGroup p) keys later
       ∙ ap₂ _++_ (filter-all (ofGroup p) keys (every-weaken (λ k e. eq-eqb (groupIn k) p e) keys a)) (none-of p later c)
       ∙ append-nil keys
 
   -- and those of a later group
   later-group : (p q : ℕ) → q < p → (keys later : List ℕ) → Every (λ k. groupIn k ≡ q) keys → filter (ofGroup p) (keys ++ later) ≡ filter (ofGroup p) later
   later-group p q h keys later a =
-      filter-append p keys later
+      filter-append (ofGroup p) keys later
       ∙ ap (λ l. l ++ filter (ofGroup p) later) (filter-none (ofGroup p) keys (every-weaken (λ k e. ne-eqb (groupIn k) p (λ z. omega arith)) keys a))
 
   -- a later cell's keys are held by those behind a group

@@ -1,5 +1,5 @@
 -- Sound orders stay sound when they lose shares and leave, and when an order is put last.
-use Prim.Native.Nat.{ℕ, suc, _≤_, _<_}
+use Prim.Native.Nat.{ℕ, _≤_, _<_}
 use mathlib.Core.Path.{_≡_, refl, ap, _∙_}
 use mathlib.Core.Bool.{Bool, true, false, not}
 use mathlib.Core.List.{List, [], _∷_, _++_}
@@ -9,7 +9,7 @@ use lib.Dec.{ltb}
 use borrow.Author.Tests.{ltb-true, lt-ltb, not-true}
 use Rattle.units.specs.Lists.{any, filter, consIf, zipWith}
 use Rattle.units.proofs.Tests.{and-true, true-and, or-false}
-use Rattle.units.proofs.Members.{Every, every-append}
+use Rattle.units.proofs.Members.{Every, every-append, filter-fewer}
 use Rattle.orders.specs.declared.order.Order.{Order}
 use Rattle.orders.specs.Order.{Interest, settled, isResting}
 use Rattle.record.proofs.Orders.{OrderSound, order-facts}
@@ -85,15 +85,14 @@ rest-setters (l ∷ ls) (o ∷ os) e =
 pub settle-sound : (ls : List Interest) (os : List Order) → OrdersSound os → OrdersSound (filter isResting (zipWith settled ls os))
 settle-sound ls os h = record { each = rest-each ls os (h .each); rise = rest-rise 0 ls os (h .rise); setters = rest-setters ls os (h .setters) }
 
+settled-fewer : (ls : List Interest) (os : List Order) → length (zipWith settled ls os) ≤ length os
+settled-fewer [] os = omega arith
+settled-fewer (l ∷ ls) [] = omega arith
+settled-fewer (l ∷ ls) (o ∷ os) = omega (arith, settled-fewer ls os)
+
 -- and are no more than they were
 pub settle-fewer : (ls : List Interest) (os : List Order) → length (filter isResting (zipWith settled ls os)) ≤ length os
-settle-fewer [] os = omega arith
-settle-fewer (l ∷ ls) [] = omega arith
-settle-fewer (l ∷ ls) (o ∷ os) = go (isResting (settled l o)) (settle-fewer ls os)
-  where
-    go : (b : Bool) → length (rest ls os) ≤ length os → length (consIf b (settled l o) (rest ls os)) ≤ suc (length os)
-    go true h = omega arith
-    go false h = omega arith
+settle-fewer ls os = omega (arith, filter-fewer isResting (zipWith settled ls os), settled-fewer ls os)
 
 -- An order put last.
 module _ (o : Order) where

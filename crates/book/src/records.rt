@@ -1,4 +1,4 @@
-// The records of a book: an order read from one, an order written to one, and one taken out.
+// The records of a book: an order read from one, an order written to one, one copied, and one taken out.
 use orders::order::Order;
 use record::bytes;
 use record::order_record;
@@ -38,6 +38,16 @@ pub fn write_order(book: &mut [u8], at: usize, order: Order)
 {
     let bytes = order_record::bytes_of(order);
     bytes::put(book, at, &bytes);
+}
+
+// The record from a byte on goes where another was.
+pub fn copy(book: &mut [u8], from: usize, to: usize)
+    requires { ⌜ (from + 32 ≤ length (now book)) × (to + 32 ≤ length (now book)) ⌝ }
+    ensures { λ _. ⌜ now (book .exit) ≡ replaced to (take 32 (drop from (now (book .entry)))) (now (book .entry)) ⌝ }
+{
+    let mut bytes = [0u8; 32];
+    bytes::put(&mut bytes, 0, &book[from..from + RECORD_BYTES]);
+    bytes::put(book, to, &bytes);
 }
 
 // The bytes behind the record move up over it; the last 32 bytes stay.

@@ -1,11 +1,11 @@
 -- Bytes put in the place of others one by one: after i of them, a list x is what paste says, and after the last it is what replaced says.
 use Prim.Native.Nat.{ℕ, _+_, _-_, _≤_, _<_}
 use mathlib.Core.Path.{_≡_, sym, ap, ap₂, _∙_}
-use mathlib.Core.List.{List, _++_, append-assoc}
+use mathlib.Core.List.{List, _++_, append-nil, append-assoc}
 use native.Mathlib.Omega.{arith}
 use native.Mathlib.Numerals.{add-one}
 use lib.ListN.{length, getD, take, drop, set, length-append, length-drop, take-append-drop}
-use lib.Seq.{paste, paste-suc, length-paste, drop-paste, take-length, take-append-seam, length-take-le, drop-drop, getD-drop}
+use lib.Seq.{paste, paste-suc, length-paste, drop-paste, take-length, take-append-seam, length-take-le, drop-length, drop-drop, getD-drop}
 use Rattle.record.specs.Codec.{replaced}
 
 module _ (d s : List ℕ) (at : ℕ) (h : at + length s ≤ length d) (x : List ℕ) (i : ℕ) (e : x ≡ paste d at s i) where
@@ -79,6 +79,10 @@ module _ (at : ℕ) (new b : List ℕ) (h : at + length new ≤ length b) where
         length-take-le at b (omega arith),
         length-drop (at + length new) b,
       )
+
+-- bytes put in the place of as many, all of them, are what is there
+pub replaced-all : (new b : List ℕ) → length new ≡ length b → replaced 0 new b ≡ new
+replaced-all new b e = let q : 0 + length new ≡ length b = omega arith in rw (q, drop-length b) (append-nil new)
 
 -- bytes put in their own place leave the buffer as it was
 pub replaced-same : (at n : ℕ) (b : List ℕ) → at + n ≤ length b → replaced at (take n (drop at b)) b ≡ b

@@ -1,10 +1,8 @@
 // What a take has decided is written: its executions, and the book without the shares that its orders lost.
 mod executions;
+pub mod settling;
 
-use book::records;
-use book::records::RECORD_BYTES;
 use matching::Taken;
-use record::bytes;
 use record::execution::EXECUTION_BYTES;
 use units::Shares;
 ghost use mathlib.Core.Path.{_≡_};
@@ -20,35 +18,6 @@ ghost use Rattle.book.specs.Sound.{sound, ordersOf, orderAt, bookOf, capacityOf
 ghost use Rattle.matching.specs.TakeCall.{written};
 ghost use Rattle.parts.specs.Key.{placeIn};
 ghost use Rattle.parts.specs.Execution.{executionOf};
-
-// Each of the n orders loses its shares. The orders that still rest move up in one pass, with zeros behind. A record that loses nothing and
-// stands in its place is not written.
-fn settle(book: &mut [u8], n: usize, shown: &[u32], hidden: &[u32])
-    requires { ⌜ (sound (now book) ≡ true)
-        × (n ≡ length (ordersOf (now book)))
-        × (n ≤ length (now shown))
-        × (n ≤ length (now hidden)) ⌝ }
-    ensures { λ _. ⌜ now (book .exit)
-        ≡ bookOf (capacityOf (now (book .entry))) (filter isResting (zipWith settled (lossesIn n (now (shown .entry)) (now (hidden .entry))) (ordersOf (now (book .entry))))) ⌝ }
-{
-    let mut i = 0;
-    let mut kept = 0;
-    while i < n {
-        if (0 < shown[i]) | (0 < hidden[i]) | (kept < i) {
-            let order = records::order_at(book, RECORD_BYTES * i);
-            let s = Shares(shown[i]);
-            let h = Shares(hidden[i]);
-            if order.rests_after(s, h) {
-                records::write_order(book, RECORD_BYTES * kept, order.settled(s, h));
-                kept += 1;
-            }
-        } else {
-            kept += 1;
-        }
-        i += 1;
-    }
-    bytes::clear(book, RECORD_BYTES * kept, RECORD_BYTES * (n - kept));
-}
 
 // A take is made as it was decided: the executions of its fills go into a buffer, from its start, and each of the n orders loses what is
 // allotted to it. Where there is no room for the executions it is refused, and no byte changes.
@@ -84,7 +53,7 @@ pub fn commit(
         };
     }
     executions::write(book, fills, executions);
-    settle(book, n, allotment, allotment);
+    settling::settle(book, n, allotment, allotment);
     Taken {
         refusal: 0,
         count: count as u32,

@@ -1,5 +1,5 @@
 -- What holds of every element of a list, and tests over lists as facts about members.
-use Prim.Native.Nat.{ℕ, zero, suc, _<_}
+use Prim.Native.Nat.{ℕ, zero, suc, _≤_, _<_}
 use mathlib.Core.Path.{_≡_, refl, sym, ap, _∙_, subst⁻¹}
 use mathlib.Core.Bool.{Bool, true, false, _&&_, _||_, and-assoc, true≢false, false≢true}
 use mathlib.Core.List.{List, [], _∷_, _++_, List·Memᴰ, List·Memᴰ·head, List·Memᴰ·tail, List·Memᴰ·not-nil}
@@ -98,6 +98,15 @@ module _ {A : Type 0} where
   pub filter-none : (p : A → Bool) (xs : List A) → Every (λ x. p x ≡ false) xs → filter p xs ≡ []
   filter-none p [] h = refl
   filter-none p (x ∷ xs) h = rw (h .0) (filter-none p xs (h .1))
+
+  -- none keeps more than there are
+  pub filter-fewer : (p : A → Bool) (xs : List A) → length (filter p xs) ≤ length xs
+  filter-fewer p [] = omega arith
+  filter-fewer p (x ∷ xs) = go (p x) (filter-fewer p xs)
+    where
+      go : (b : Bool) → length (filter p xs) ≤ length xs → length (consIf b x (filter p xs)) ≤ suc (length xs)
+      go true h = omega arith
+      go false h = omega arith
 
 -- what holds of every number holds of the one at a place
 pub every-at : (P : ℕ → Type 0) (xs : List ℕ) → Every P xs → (k : ℕ) → k < length xs → P (getD xs k 0)

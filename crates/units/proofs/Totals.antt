@@ -6,7 +6,7 @@ use mathlib.Core.List.{List, [], _∷_, _++_, map, append-nil, append-assoc, Lis
 use native.Mathlib.Omega.{arith}
 use native.Mathlib.Nat.{zero-add, add-comm, zero-mul, mul-zero, mul-suc, add-mul}
 use lib.ListN.{length, length-append}
-use Rattle.units.specs.Lists.{total, flatMap, zipWith, consIf}
+use Rattle.units.specs.Lists.{total, flatMap, zipWith, consIf, filter}
 
 module _ {A : Type 0} where
   pub total-append : (f : A → ℕ) (xs ys : List A) → total f (xs ++ ys) ≡ total f xs + total f ys
@@ -85,6 +85,11 @@ module _ {A B : Type 0} where
 pub cons-append : {A : Type 0} (b : Bool) (x : A) (xs ys : List A) → consIf b x (xs ++ ys) ≡ consIf b x xs ++ ys
 cons-append true x xs ys = refl
 cons-append false x xs ys = refl
+
+-- those of two lists that pass a test, one list behind the other
+pub filter-append : {A : Type 0} (p : A → Bool) (xs ys : List A) → filter p (xs ++ ys) ≡ filter p xs ++ filter p ys
+filter-append p [] ys = refl
+filter-append p (x ∷ xs) ys = ap (consIf (p x) x) (filter-append p xs ys) ∙ cons-append (p x) x (filter p xs) (filter p ys)
 
 module _ {A B C : Type 0} where
   pub zip-map : (f : B → C → ℕ) (g : A → B) (h : A → C) (xs : List A) → zipWith f (map g xs) (map h xs) ≡ map (λ x. f (g x) (h x)) xs

@@ -18,7 +18,7 @@ returns-2 : tie.Need-returns-2
 returns-2 c =
     let t = c .before .before in
     let w = t .before .before .before .before in
-    ((λ h. absurd (omega (arith, w .before .before .before .if1 .left))), λ h. (refl, t .settle .ensures, w .write .ensures))
+    ((λ h. absurd (omega (arith, w .before .before .before .if1 .left))), λ h. (refl, t .settle .ensures .0, w .write .ensures))
 
 pub commit-spec : {M : Type 1} → statement M
 commit-spec =
