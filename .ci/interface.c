@@ -6,13 +6,15 @@
 /* Whether a struct's field of this name lies at this byte. */
 #define AT(type, field, byte) _Static_assert(offsetof(type, field) == (byte), #field " of " #type)
 
-_Static_assert(sizeof(ruhvasto_add_request) == 24, "size of ruhvasto_add_request");
+_Static_assert(sizeof(ruhvasto_add_request) == 32, "size of ruhvasto_add_request");
 AT(ruhvasto_add_request, side, 0);
 AT(ruhvasto_add_request, kind, 4);
 AT(ruhvasto_add_request, number, 8);
 AT(ruhvasto_add_request, price, 12);
 AT(ruhvasto_add_request, size, 16);
 AT(ruhvasto_add_request, minimum, 20);
+AT(ruhvasto_add_request, hidden, 24);
+AT(ruhvasto_add_request, refresh, 28);
 _Static_assert(sizeof(ruhvasto_take_request) == 16, "size of ruhvasto_take_request");
 AT(ruhvasto_take_request, side, 0);
 AT(ruhvasto_take_request, limit, 4);
@@ -29,6 +31,16 @@ _Static_assert(sizeof(ruhvasto_taken) == 12, "size of ruhvasto_taken");
 AT(ruhvasto_taken, refusal, 0);
 AT(ruhvasto_taken, count, 4);
 AT(ruhvasto_taken, left, 8);
+_Static_assert(sizeof(ruhvasto_order) == 36, "size of ruhvasto_order");
+AT(ruhvasto_order, side, 0);
+AT(ruhvasto_order, kind, 4);
+AT(ruhvasto_order, number, 8);
+AT(ruhvasto_order, price, 12);
+AT(ruhvasto_order, size, 16);
+AT(ruhvasto_order, minimum, 20);
+AT(ruhvasto_order, setter, 24);
+AT(ruhvasto_order, hidden, 28);
+AT(ruhvasto_order, refresh, 32);
 _Static_assert(sizeof(ruhvasto_execution) == 16, "size of ruhvasto_execution");
 AT(ruhvasto_execution, number, 0);
 AT(ruhvasto_execution, price, 4);
@@ -41,7 +53,7 @@ AT(ruhvasto_row, displayed, 8);
 AT(ruhvasto_row, other, 12);
 AT(ruhvasto_row, orders, 16);
 _Static_assert(RUHVASTO_BOOK_BYTES == RUHVASTO_BOOK_ORDERS * RUHVASTO_RECORD_BYTES, "the largest book");
-_Static_assert(RUHVASTO_EXECUTIONS_BYTES == RUHVASTO_BOOK_ORDERS * RUHVASTO_EXECUTION_BYTES, "the most executions");
+_Static_assert(RUHVASTO_EXECUTIONS_BYTES == 2 * RUHVASTO_BOOK_ORDERS * RUHVASTO_EXECUTION_BYTES, "the most executions");
 _Static_assert(RUHVASTO_LADDER_BYTES == RUHVASTO_LADDER_ROWS * RUHVASTO_ROW_BYTES, "the bytes of a ladder");
 _Static_assert(RUHVASTO_LADDER_ROWS == RUHVASTO_BOOK_ORDERS, "the most rows");
 
@@ -107,7 +119,7 @@ static void ranges(void)
     EXPECT(add(RUHVASTO_BUY - 1, RUHVASTO_DISPLAYED, 1, 1, 0) == RUHVASTO_OUT_OF_RANGE);
     EXPECT(add(RUHVASTO_SELL + 1, RUHVASTO_DISPLAYED, 1, 1, 0) == RUHVASTO_OUT_OF_RANGE);
     EXPECT(add(RUHVASTO_BUY, RUHVASTO_DISPLAYED - 1, 1, 1, 0) == RUHVASTO_OUT_OF_RANGE);
-    EXPECT(add(RUHVASTO_BUY, RUHVASTO_MINIMUM_QUANTITY + 1, 1, 1, 0) == RUHVASTO_OUT_OF_RANGE);
+    EXPECT(add(RUHVASTO_BUY, RUHVASTO_RESERVE + 1, 1, 1, 0) == RUHVASTO_OUT_OF_RANGE);
     EXPECT(add(RUHVASTO_BUY, RUHVASTO_DISPLAYED, RUHVASTO_PRICE_MOST + 1u, 1, 0) == RUHVASTO_OUT_OF_RANGE);
     EXPECT(add(RUHVASTO_BUY, RUHVASTO_DISPLAYED, 1, RUHVASTO_SIZE_MOST + 1u, 0) == RUHVASTO_OUT_OF_RANGE);
     EXPECT(add(RUHVASTO_BUY, RUHVASTO_DISPLAYED, 1, 1, 1) == RUHVASTO_OUT_OF_RANGE);
@@ -150,7 +162,7 @@ static void layouts(void)
     ruhvasto_execution execution;
     EXPECT(add(RUHVASTO_BUY, RUHVASTO_MINIMUM_QUANTITY, 0x01020304, 0x050607, 0x040506) == RUHVASTO_ACCEPTED);
     order = ruhvasto_order_at(book);
-    EXPECT(book[0] == 0x4f && book[1] == 0x42);
+    EXPECT(book[0] == 0x4f && book[1] == 0x43 && order.hidden == 0 && order.refresh == 0);
     EXPECT(order.side == RUHVASTO_BUY && order.kind == RUHVASTO_MINIMUM_QUANTITY && order.number == 1 && order.setter == 0);
     EXPECT(order.price == 0x01020304 && order.size == 0x050607 && order.minimum == 0x040506);
     clear();
@@ -479,7 +491,7 @@ static void refused_as_plain(void)
     EXPECT(add_kept(len, RUHVASTO_SELL, RUHVASTO_DISPLAYED, 7, 100300, 10, 0) == RUHVASTO_ACCEPTED);
     EXPECT(add_kept(len, RUHVASTO_SELL, RUHVASTO_DISPLAYED, 8, 100300, 10, 0) == RUHVASTO_ACCEPTED);
     remember();
-    EXPECT(add_kept(len, RUHVASTO_SELL, 4, 9, 100300, 10, 0) == RUHVASTO_OUT_OF_RANGE);
+    EXPECT(add_kept(len, RUHVASTO_SELL, RUHVASTO_RESERVE + 1, 9, 100300, 10, 0) == RUHVASTO_OUT_OF_RANGE);
     EXPECT(add_kept(len, RUHVASTO_SELL, RUHVASTO_DISPLAYED, 8, 100300, 10, 0) == RUHVASTO_STALE_NUMBER);
     EXPECT(add_kept(len, RUHVASTO_BUY, RUHVASTO_DISPLAYED, 9, 100000, 10, 0) == RUHVASTO_COULD_TRADE);
     EXPECT(add_kept(len, RUHVASTO_SELL, RUHVASTO_DISPLAYED, 9, 100300, 10, 0) == RUHVASTO_BOOK_FULL);
@@ -575,6 +587,315 @@ static void ladder_order(void)
     EXPECT(reduce_kept(0, 1, 0) == RUHVASTO_OUT_OF_RANGE && unchanged());
 }
 
+/* RESERVE ORDERS. The request of a sell at 100000; the refresh size of a reserve order is what it shows. */
+#define SELL(which, n, shown) .side = RUHVASTO_SELL, .kind = RUHVASTO_##which, .number = n, .price = 100000, .size = shown
+#define D(n, shares) { SELL(DISPLAYED, n, shares) }
+#define H(n, shares) { SELL(NON_DISPLAYED, n, shares) }
+#define M(n, shares, least) { SELL(MINIMUM_QUANTITY, n, shares), .minimum = least }
+#define R(n, shown, behind) { SELL(RESERVE, n, shown), .hidden = behind, .refresh = shown }
+
+static uint32_t put_in(size_t book_len, ruhvasto_add_request request)
+{
+    return ruhvasto_add(book, book_len, request);
+}
+
+/* The same order, as a buy. */
+static ruhvasto_add_request as_buy(ruhvasto_add_request request)
+{
+    request.side = RUHVASTO_BUY;
+    return request;
+}
+
+/* Whether the order in this place shows and hides so many shares. */
+static int has_parts(size_t place, uint32_t shown, uint32_t hidden)
+{
+    const ruhvasto_order order = ruhvasto_order_in(book, place);
+    return order.size == shown && order.hidden == hidden;
+}
+
+static void reserve_ranges(void)
+{
+    const uint32_t most = RUHVASTO_SIZE_MOST;
+    static const ruhvasto_add_request others[] = { D(1, 500), H(1, 500), M(1, 500, 300) };
+    ruhvasto_add_request request = R(1, 500, 0);
+    clear();
+    remember();
+    for (request.hidden = 0; request.hidden <= most; request.hidden += most) {
+        EXPECT(put_in(KEPT, request) == RUHVASTO_ACCEPTED && has_parts(0, 500, request.hidden));
+        clear();
+    }
+    request.hidden = most + 1;
+    EXPECT(put_in(KEPT, request) == RUHVASTO_OUT_OF_RANGE);
+    request.hidden = UINT32_MAX;
+    EXPECT(put_in(KEPT, request) == RUHVASTO_OUT_OF_RANGE);
+    request.hidden = 7;
+    uint32_t refused = 0;
+    for (request.refresh = 0; request.refresh <= 1000; request.refresh++)
+        refused += request.refresh != 500 && put_in(KEPT, request) == RUHVASTO_OUT_OF_RANGE;
+    EXPECT(refused == 1000);
+    request.size = request.refresh = 0;
+    EXPECT(put_in(KEPT, request) == RUHVASTO_OUT_OF_RANGE);
+    request.size = request.refresh = most + 1;
+    EXPECT(put_in(KEPT, request) == RUHVASTO_OUT_OF_RANGE);
+    request.size = request.refresh = most;
+    request.minimum = 1;
+    EXPECT(put_in(KEPT, request) == RUHVASTO_OUT_OF_RANGE);
+    for (size_t i = 0; i < sizeof others / sizeof *others; i++) {
+        request = others[i];
+        request.hidden = 5;
+        EXPECT(put_in(KEPT, request) == RUHVASTO_OUT_OF_RANGE);
+        request.hidden = 0;
+        for (request.refresh = 1; request.refresh <= 500; request.refresh += 499)
+            EXPECT(put_in(KEPT, request) == RUHVASTO_OUT_OF_RANGE);
+    }
+    EXPECT(same_book());
+    request = (ruhvasto_add_request)R(1, 1, 0);
+    EXPECT(put_in(KEPT, request) == RUHVASTO_ACCEPTED);
+    clear();
+    request = (ruhvasto_add_request)R(1, most, most);
+    EXPECT(put_in(KEPT, request) == RUHVASTO_ACCEPTED && has_parts(0, most, most));
+}
+
+/* A record byte by byte; every byte behind byte 31 with every value, and what else a kind must or mustn't have. */
+static void reserve_records(void)
+{
+    static const uint8_t record[RUHVASTO_RECORD_BYTES] = { 0x4f, 0x43, 2, 4, 4, 3, 2, 1, 7, 6, 5, 4, 9, 8, 7, 0, 0, 0, 0, 0, 1,
+                                                           [32] = 12, 11, 10, 0, 9, 8, 7, 0 };
+    static const ruhvasto_add_request every[] = { D(1, 500), H(1, 500), M(1, 500, 300), R(1, 500, 70) };
+    clear();
+    EXPECT(put_in(KEPT, (ruhvasto_add_request){ .side = RUHVASTO_SELL, .kind = RUHVASTO_RESERVE, .number = 0x01020304, .price = 0x04050607,
+        .size = 0x070809, .hidden = 0x0a0b0c, .refresh = 0x070809 }) == RUHVASTO_ACCEPTED);
+    EXPECT(memcmp(book, record, sizeof record) == 0);
+    const ruhvasto_order order = ruhvasto_order_at(book);
+    EXPECT(order.side == RUHVASTO_SELL && order.kind == RUHVASTO_RESERVE && order.number == 0x01020304 && order.price == 0x04050607);
+    EXPECT(order.size == 0x070809 && order.minimum == 0 && order.setter == 1 && order.hidden == 0x0a0b0c && order.refresh == 0x070809);
+    for (size_t i = 0; i < sizeof every / sizeof *every; i++) {
+        const int reserve = every[i].kind == RUHVASTO_RESERVE;
+        clear();
+        EXPECT(put_in(KEPT, every[i]) == RUHVASTO_ACCEPTED);
+        for (size_t at = 32; at < RUHVASTO_RECORD_BYTES; at++) {
+            const uint8_t right = book[at];
+            uint32_t agree = 0;
+            for (uint32_t value = 0; value < 256; value++) {
+                book[at] = (uint8_t)value;
+                const ruhvasto_order o = ruhvasto_order_at(book);
+                const int sound = reserve ? o.hidden <= RUHVASTO_SIZE_MOST && o.refresh >= 1 && o.refresh <= RUHVASTO_SIZE_MOST
+                                          : value == 0;
+                agree += ruhvasto_check(book, KEPT).refusal == (sound ? RUHVASTO_ACCEPTED : RUHVASTO_UNSOUND_BOOK);
+            }
+            EXPECT(agree == 256);
+            book[at] = right;
+        }
+        for (size_t at = 21; at < 32; at++) {
+            book[at] = 1;
+            EXPECT(ruhvasto_check(book, KEPT).refusal == RUHVASTO_UNSOUND_BOOK);
+            book[at] = 0;
+        }
+        book[20] = 1;
+        EXPECT((ruhvasto_check(book, KEPT).refusal == RUHVASTO_ACCEPTED) == (reserve || every[i].kind == RUHVASTO_DISPLAYED));
+        book[20] = 2;
+        EXPECT(ruhvasto_check(book, KEPT).refusal == RUHVASTO_UNSOUND_BOOK);
+    }
+    /* The last is a reserve order. It shows as much as it likes, beside any refresh size; has no minimum; and kind 5 is none. */
+    book[20] = 1;
+    put(book + 36, 1, 4);
+    EXPECT(ruhvasto_check(book, KEPT).orders == 1);
+    put(book + 36, RUHVASTO_SIZE_MOST, 4);
+    EXPECT(ruhvasto_check(book, KEPT).orders == 1);
+    put(book + 12, 0, 4);
+    EXPECT(ruhvasto_check(book, KEPT).refusal == RUHVASTO_UNSOUND_BOOK);
+    put(book + 12, 500, 4);
+    book[16] = 1;
+    EXPECT(ruhvasto_check(book, KEPT).refusal == RUHVASTO_UNSOUND_BOOK);
+    book[16] = 0;
+    EXPECT(ruhvasto_check(book, KEPT).orders == 1);
+    book[3] = RUHVASTO_RESERVE + 1;
+    EXPECT(ruhvasto_check(book, KEPT).refusal == RUHVASTO_UNSOUND_BOOK);
+}
+
+/* Books as they were up to version 5, with records of 32 bytes and another mark. */
+static void older_records(void)
+{
+    clear();
+    EXPECT(put_in(RUHVASTO_RECORD_BYTES, (ruhvasto_add_request)D(1, 500)) == RUHVASTO_ACCEPTED);
+    book[1] = 0x42;
+    EXPECT(ruhvasto_check(book, RUHVASTO_RECORD_BYTES).refusal == RUHVASTO_UNSOUND_BOOK);
+    EXPECT(ruhvasto_check(book, 32).refusal == RUHVASTO_UNSOUND_BOOK);
+    for (uint32_t i = 1; i < 5; i++) {
+        memcpy(book + 32 * i, book, 32);
+        put(book + 32 * i + 4, i + 1, 4);
+    }
+    EXPECT(ruhvasto_check(book, 5 * 32).refusal == RUHVASTO_UNSOUND_BOOK);
+    clear();
+    EXPECT(ruhvasto_check(book, 256 * 32).refusal == RUHVASTO_UNSOUND_BOOK);
+    EXPECT(ruhvasto_check(book, 5 * 32).refusal == RUHVASTO_ACCEPTED);
+}
+
+/* Books of sells at one price, a buy at that price, its executions, and what still rests. What isn't filled in is zero and ends a list. */
+static const struct {
+    ruhvasto_add_request orders[4];
+    uint32_t size, algorithm;
+    struct { uint32_t paragraph, number, shares; } executions[4];
+    struct { uint32_t number, shown, hidden; } resting[4];
+} cases[] = {
+    { { R(1, 100, 250), D(2, 300) }, 500, RUHVASTO_PRO_RATA, { { 2, 1, 100 }, { 2, 2, 300 }, { 4, 1, 100 } }, { { 1, 100, 50 } } },
+    { { R(1, 100, 250), D(2, 300) }, 650, RUHVASTO_PRO_RATA, { { 2, 1, 100 }, { 2, 2, 300 }, { 4, 1, 250 } }, { { 0 } } },
+    { { R(1, 100, 60), H(2, 200) }, 330, RUHVASTO_PRO_RATA, { { 2, 1, 100 }, { 4, 2, 200 }, { 6, 1, 30 } }, { { 1, 30, 0 } } },
+    { { R(1, 100, 30) }, 100, RUHVASTO_PRO_RATA, { { 2, 1, 100 } }, { { 1, 30, 0 } } },
+    { { R(1, 100, 30) }, 99, RUHVASTO_PRO_RATA, { { 2, 1, 99 } }, { { 1, 1, 30 } } },
+    { { R(1, 50, 150), D(2, 200) }, 260, RUHVASTO_PRO_RATA, { { 2, 2, 200 }, { 3, 1, 50 }, { 4, 1, 10 } }, { { 1, 50, 90 } } },
+    { { H(1, 50), R(2, 100, 250), H(3, 70) }, 200, RUHVASTO_PRICE_TIME, { { 2, 2, 100 }, { 3, 1, 50 }, { 3, 2, 50 } },
+      { { 2, 100, 100 }, { 3, 70, 0 } } },
+    { { R(1, 100, 500), D(2, 900) }, 500, RUHVASTO_PRO_RATA_SETTER, { { 2, 1, 100 }, { 2, 2, 400 } }, { { 1, 100, 400 }, { 2, 500, 0 } } },
+    /* What is shown anew doesn't trade as shown in the take that shows it. */
+    { { R(1, 100, 100), H(2, 300) }, 300, RUHVASTO_PRO_RATA, { { 2, 1, 100 }, { 4, 2, 200 } }, { { 1, 100, 0 }, { 2, 100, 0 } } },
+};
+
+/* An order in the book beside the one that was added: all but what it shows and hides is the same. */
+static int same_order(ruhvasto_order order, ruhvasto_order added)
+{
+    return order.side == added.side && order.kind == added.kind && order.number == added.number && order.price == added.price
+        && order.minimum == added.minimum && order.setter == added.setter && order.refresh == added.refresh;
+}
+
+static void reserve_cases(void)
+{
+    for (size_t i = 0; i < sizeof cases / sizeof *cases; i++) {
+        ruhvasto_order added[5] = { { 0 } };
+        uint32_t executed = 0, count = 0, left = cases[i].size, orders = 0;
+        clear();
+        for (uint32_t at = 0; at < 4 && cases[i].orders[at].kind != 0; at++) {
+            EXPECT(put_in(KEPT, cases[i].orders[at]) == RUHVASTO_ACCEPTED);
+            added[at + 1] = ruhvasto_order_in(book, at);
+        }
+        EXPECT(make(KEPT, RUHVASTO_LADDER_BYTES) == RUHVASTO_ACCEPTED);
+        while (count < 4 && cases[i].executions[count].shares != 0)
+            left -= cases[i].executions[count++].shares;
+        const ruhvasto_take_request request = {
+            .side = RUHVASTO_BUY, .limit = 100000, .size = cases[i].size, .algorithm = cases[i].algorithm };
+        remember();
+        ruhvasto_taken taken = ruhvasto_take(book, KEPT, executions, count * RUHVASTO_EXECUTION_BYTES - 1, request);
+        EXPECT(taken.refusal == RUHVASTO_SMALL_BUFFER && taken.count == 0 && taken.left == 0 && unchanged());
+        taken = ruhvasto_take_ladder(book, KEPT, executions, sizeof executions, ladder, RUHVASTO_LADDER_BYTES, request);
+        EXPECT(taken.refusal == RUHVASTO_ACCEPTED && taken.count == count && taken.left == left);
+        for (; executed < count; executed++) {
+            const uint8_t *bytes = executions + executed * RUHVASTO_EXECUTION_BYTES;
+            const ruhvasto_execution execution = ruhvasto_execution_at(bytes);
+            EXPECT(bytes[0] == 0x45 && bytes[1] == 0x58 && bytes[2] == cases[i].executions[executed].paragraph && bytes[3] == 0);
+            EXPECT(execution.number == cases[i].executions[executed].number && execution.price == 100000);
+            EXPECT(execution.shares == cases[i].executions[executed].shares);
+        }
+        EXPECT(executions[count * RUHVASTO_EXECUTION_BYTES] == 0xee);
+        for (; orders < 4 && cases[i].resting[orders].number != 0; orders++) {
+            EXPECT(has_parts(orders, cases[i].resting[orders].shown, cases[i].resting[orders].hidden));
+            EXPECT(same_order(ruhvasto_order_in(book, orders), added[cases[i].resting[orders].number]));
+        }
+        EXPECT(ruhvasto_check(book, KEPT).orders == orders);
+        /* The ladder is the new book's. */
+        remember();
+        EXPECT(make(KEPT, RUHVASTO_LADDER_BYTES) == RUHVASTO_ACCEPTED && unchanged());
+    }
+}
+
+/* Refreshed, an order is still the earlier one, and still the price setter. */
+static void refreshed(void)
+{
+    clear();
+    EXPECT(put_in(KEPT, (ruhvasto_add_request)R(1, 100, 100)) == RUHVASTO_ACCEPTED);
+    EXPECT(put_in(KEPT, (ruhvasto_add_request)D(2, 100)) == RUHVASTO_ACCEPTED);
+    EXPECT(take_from(KEPT, sizeof executions, 100, RUHVASTO_PRICE_TIME).count == 1 && has_parts(0, 100, 0));
+    EXPECT(take_from(KEPT, sizeof executions, 50, RUHVASTO_PRICE_TIME).count == 1 && has_parts(0, 50, 0) && has_parts(1, 100, 0));
+    clear();
+    EXPECT(put_in(KEPT, (ruhvasto_add_request)R(1, 100, 500)) == RUHVASTO_ACCEPTED);
+    EXPECT(put_in(KEPT, (ruhvasto_add_request)D(2, 900)) == RUHVASTO_ACCEPTED);
+    EXPECT(take_from(KEPT, sizeof executions, 500, RUHVASTO_PRO_RATA_SETTER).count == 2 && ruhvasto_order_in(book, 0).setter == 1);
+    EXPECT(take_from(KEPT, sizeof executions, 300, RUHVASTO_PRO_RATA_SETTER).count == 2 && has_parts(0, 100, 300) && has_parts(1, 300, 0));
+}
+
+static void reserve_reduced(void)
+{
+    const uint32_t most = RUHVASTO_SIZE_MOST;
+    clear();
+    EXPECT(put_in(KEPT, (ruhvasto_add_request)R(1, 100, 50)) == RUHVASTO_ACCEPTED);
+    EXPECT(put_in(KEPT, (ruhvasto_add_request)R(2, most, most)) == RUHVASTO_ACCEPTED);
+    remember();
+    EXPECT(ruhvasto_reduce(book, KEPT, 1, 151) == RUHVASTO_TOO_MANY_SHARES && same_book());
+    EXPECT(ruhvasto_reduce(book, KEPT, 1, 49) == RUHVASTO_ACCEPTED && has_parts(0, 100, 1));
+    EXPECT(ruhvasto_reduce(book, KEPT, 1, 31) == RUHVASTO_ACCEPTED && has_parts(0, 70, 0));
+    EXPECT(ruhvasto_reduce(book, KEPT, 1, 71) == RUHVASTO_TOO_MANY_SHARES && has_parts(0, 70, 0));
+    EXPECT(ruhvasto_order_in(book, 0).refresh == 100 && ruhvasto_order_in(book, 0).setter == 1);
+    EXPECT(ruhvasto_reduce(book, KEPT, 1, 70) == RUHVASTO_ACCEPTED && ruhvasto_order_in(book, 0).number == 2);
+    EXPECT(ruhvasto_reduce(book, KEPT, 2, most + 1) == RUHVASTO_OUT_OF_RANGE && has_parts(0, most, most));
+    EXPECT(ruhvasto_reduce(book, KEPT, 2, most) == RUHVASTO_ACCEPTED && has_parts(0, most, 0));
+    EXPECT(ruhvasto_reduce(book, KEPT, 2, most) == RUHVASTO_ACCEPTED && ruhvasto_check(book, KEPT).orders == 0);
+    clear();
+    EXPECT(put_in(KEPT, (ruhvasto_add_request)R(1, 100, 50)) == RUHVASTO_ACCEPTED);
+    EXPECT(ruhvasto_reduce(book, KEPT, 1, 150) == RUHVASTO_ACCEPTED && ruhvasto_check(book, KEPT).orders == 0);
+}
+
+/* Refusal 5: a new reserve order counts with all its shares, a resting one always. The mark: what is shown alone. */
+static void reserve_entered(void)
+{
+    clear();
+    EXPECT(put_in(KEPT, (ruhvasto_add_request)M(1, 600, 550)) == RUHVASTO_ACCEPTED);
+    remember();
+    EXPECT(put_in(KEPT, as_buy((ruhvasto_add_request)R(2, 100, 500))) == RUHVASTO_COULD_TRADE);
+    EXPECT(put_in(KEPT, as_buy((ruhvasto_add_request)R(2, 100, 450))) == RUHVASTO_COULD_TRADE && same_book());
+    EXPECT(put_in(KEPT, as_buy((ruhvasto_add_request)R(2, 100, 449))) == RUHVASTO_ACCEPTED && ruhvasto_order_in(book, 1).setter == 1);
+    EXPECT(put_in(KEPT, as_buy((ruhvasto_add_request)R(3, 100, 400))) == RUHVASTO_ACCEPTED && ruhvasto_order_in(book, 2).setter == 0);
+    for (uint32_t hidden = 0; hidden <= 500; hidden += 500) {
+        clear();
+        EXPECT(put_in(KEPT, (ruhvasto_add_request)R(1, 50, hidden)) == RUHVASTO_ACCEPTED && ruhvasto_order_in(book, 0).setter == 0);
+        EXPECT(add_displayed(KEPT, RUHVASTO_BUY, 2, 1) == RUHVASTO_COULD_TRADE);
+        EXPECT(add_sell(KEPT, 2, 100) == RUHVASTO_ACCEPTED && ruhvasto_order_in(book, 1).setter == 0);
+        ruhvasto_add_request better = R(3, 100, 0);
+        better.price = 99999;
+        EXPECT(put_in(KEPT, better) == RUHVASTO_ACCEPTED && ruhvasto_order_in(book, 2).setter == 1);
+        clear();
+        EXPECT(put_in(KEPT, (ruhvasto_add_request)R(1, 99, hidden)) == RUHVASTO_ACCEPTED && ruhvasto_order_in(book, 0).setter == 0);
+        clear();
+        EXPECT(put_in(KEPT, (ruhvasto_add_request)R(1, 100, hidden)) == RUHVASTO_ACCEPTED && ruhvasto_order_in(book, 0).setter == 1);
+    }
+}
+
+static void reserve_ladder(void)
+{
+    clear();
+    memset(ladder, 0, RUHVASTO_LADDER_BYTES);
+    EXPECT(ruhvasto_add_ladder(book, KEPT, ladder, RUHVASTO_LADDER_BYTES, (ruhvasto_add_request)R(1, 100, 250)) == RUHVASTO_ACCEPTED);
+    EXPECT(has_rows(ROWS({ RUHVASTO_SELL, 100000, 100, 250, 1 })));
+    EXPECT(ruhvasto_add_ladder(book, KEPT, ladder, RUHVASTO_LADDER_BYTES, (ruhvasto_add_request)D(2, 300)) == RUHVASTO_ACCEPTED);
+    EXPECT(ruhvasto_add_ladder(book, KEPT, ladder, RUHVASTO_LADDER_BYTES, (ruhvasto_add_request)R(3, 7, 0)) == RUHVASTO_ACCEPTED);
+    EXPECT(has_rows(ROWS({ RUHVASTO_SELL, 100000, 407, 250, 3 })));
+    EXPECT(reduce_kept(RUHVASTO_LADDER_BYTES, 1, 260) == RUHVASTO_ACCEPTED);
+    EXPECT(has_rows(ROWS({ RUHVASTO_SELL, 100000, 397, 0, 3 })));
+}
+
+/* As many executions as a take can have: two of each order of the largest book. */
+static void most_executions(void)
+{
+    for (uint32_t algorithm = RUHVASTO_PRICE_TIME; algorithm <= RUHVASTO_PRO_RATA_SETTER; algorithm++) {
+        const uint32_t hidden_paragraph = algorithm == RUHVASTO_PRICE_TIME ? 3 : 4;
+        uint32_t accepted = 0, right = 0;
+        clear();
+        for (uint32_t i = 1; i <= RUHVASTO_BOOK_ORDERS; i++)
+            accepted += put_in(RUHVASTO_BOOK_BYTES, (ruhvasto_add_request)R(i, 100, 200)) == RUHVASTO_ACCEPTED;
+        remember();
+        ruhvasto_taken taken = take_from(RUHVASTO_BOOK_BYTES, RUHVASTO_EXECUTIONS_BYTES - 1, 300 * RUHVASTO_BOOK_ORDERS, algorithm);
+        EXPECT(accepted == RUHVASTO_BOOK_ORDERS && taken.refusal == RUHVASTO_SMALL_BUFFER);
+        EXPECT(taken.count == 0 && taken.left == 0 && unchanged());
+        taken = take_from(RUHVASTO_BOOK_BYTES, RUHVASTO_EXECUTIONS_BYTES, 300 * RUHVASTO_BOOK_ORDERS, algorithm);
+        EXPECT(taken.refusal == RUHVASTO_ACCEPTED && taken.count == 2 * RUHVASTO_BOOK_ORDERS && taken.left == 0);
+        for (uint32_t i = 0; i < 2 * RUHVASTO_BOOK_ORDERS; i++) {
+            const ruhvasto_execution execution = ruhvasto_execution_at(executions + i * RUHVASTO_EXECUTION_BYTES);
+            const int shown = i < RUHVASTO_BOOK_ORDERS;
+            right += execution.number == i % RUHVASTO_BOOK_ORDERS + 1 && execution.shares == (shown ? 100u : 200u)
+                && execution.paragraph == (shown ? 2 : hidden_paragraph);
+        }
+        EXPECT(right == 2 * RUHVASTO_BOOK_ORDERS && ruhvasto_check(book, RUHVASTO_BOOK_BYTES).orders == 0);
+    }
+}
+
 int main(void)
 {
     EXPECT(ruhvasto_version() == RUHVASTO_VERSION);
@@ -594,6 +915,15 @@ int main(void)
     ladder_lengths();
     other_ladders();
     ladder_order();
+    reserve_ranges();
+    reserve_records();
+    older_records();
+    reserve_cases();
+    refreshed();
+    reserve_reduced();
+    reserve_entered();
+    reserve_ladder();
+    most_executions();
     printf("%d passed, %d failed\n", passed, failed);
     return failed != 0;
 }

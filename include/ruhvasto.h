@@ -47,38 +47,51 @@ extern "C" {
 #endif
 
 /* The version of this interface. It rises with every change that a caller can notice, and with every change request. */
-#define RUHVASTO_VERSION 5
+#define RUHVASTO_VERSION 6
 
 /* The last change request that the library has; 0 is the base, without any. */
-#define RUHVASTO_REQUESTS 3
+#define RUHVASTO_REQUESTS 4
 
 /* Bytes of stack that are enough for a call that is lent a ladder, for take, and for every other call. */
 #define RUHVASTO_LADDER_STACK_BYTES 16000
 #define RUHVASTO_TAKE_STACK_BYTES 16000
 #define RUHVASTO_STACK_BYTES 3000
 
-/* THE BOOK is a buffer of 0 to 8,192 bytes, a whole number of records of 32 bytes. Orders fill its front, in rising order number, which is
- * the order of time; every byte behind them is zero. So a new book is a buffer filled with zeros, 32 bytes for each order that it is
+/* THE BOOK is a buffer of 0 to 10,240 bytes, a whole number of records of 40 bytes. Orders fill its front, in rising order number, which is
+ * the order of time; every byte behind them is zero. So a new book is a buffer filled with zeros, 40 bytes for each order that it is
  * to hold. Numbers of more than one byte have their least significant byte first.
  *
- *   byte 0, 1     the mark 4F 42 hex
+ *   byte 0, 1     the mark 4F 43 hex
  *   byte 2        the side
  *   byte 3        the kind
  *   byte 4 to 7   the order number, 1 to 4,294,967,295
  *   byte 8 to 11  the price, 1 to 2,000,000,000
- *   byte 12 to 15 the size, 1 to 999,999
+ *   byte 12 to 15 the size, 1 to 999,999; of a reserve order that of its shown part
  *   byte 16 to 19 the minimum: 1 to the size for a minimum quantity order, 0 for every other
- *   byte 20       the setter mark: 1 if the order set its price, else 0; never 1 but for a displayed order
+ *   byte 20       the setter mark: 1 if the order set its price, else 0; never 1 but for a displayed order and a reserve order
  *   byte 21 to 31 zero
+ *   byte 32 to 35 the hidden shares: 0 to 999,999 for a reserve order, 0 for every other
+ *   byte 36 to 39 the refresh size: 1 to 999,999 for a reserve order, 0 for every other
  *
  * At most one order of a side and price has the setter mark. A book with all this is sound. Every call checks all of it before it uses the
  * book, so a book may be stored, sent and lent again; damage that leaves it sound isn't noticed.
  *
+ * A RESERVE ORDER is one order in two parts. Its shown part trades as a displayed order of that size would, its hidden part, where it has
+ * one, as a non-displayed order of its own size; the time of both is the order's. Where a take leaves it no shown shares but hidden ones,
+ * the take ends by refreshing it: as many of the hidden shares as the refresh size says, or all if they are fewer, become its shown part.
+ * These don't trade as shown shares before the next take. The order keeps its number, and so its time, and its setter mark. An order
+ * without shares in either part leaves. What an order in a book shows may have any value in its range, beside any hidden shares and any
+ * refresh size.
+ *
+ * Up to version 5 a record had 32 bytes and the mark 4F 42 hex. A program that has RUHVASTO_RECORD_BYTES for them, and names the fields of
+ * its requests, compiles as it is. Books aren't mixed: one of records of 32 bytes is refused RUHVASTO_UNSOUND_BOOK, unless it is empty and
+ * its length a whole number of 40 bytes too. No call of this edition turns one form into the other.
+ *
  * An order number may be used again once every order of that number or a higher one has left the book. So a number names one order only at
  * one time: whoever keeps a record of a course writes the time of each take beside its executions. */
-#define RUHVASTO_RECORD_BYTES 32
+#define RUHVASTO_RECORD_BYTES 40
 #define RUHVASTO_BOOK_ORDERS 256
-#define RUHVASTO_BOOK_BYTES 8192
+#define RUHVASTO_BOOK_BYTES 10240
 
 /* AN EXECUTION has 16 bytes, and the same order of bytes in a number.
  *
@@ -89,7 +102,8 @@ extern "C" {
  *   byte 8 to 11  its price, at which the shares are traded
  *   byte 12 to 15 the shares, 1 to 999,999
  *
- * Which orders each paragraph fills, by kind and by size before the take:
+ * Which orders each paragraph fills, by kind and by size before the take; the shown part of a reserve order counts as displayed, the hidden
+ * part as non-displayed, each by its own size:
  *
  *      price/time                          pro rata, and its variation
  *   2  displayed                           displayed, a round lot or more
@@ -100,9 +114,10 @@ extern "C" {
  *
  * An execution doesn't say under which algorithm it came: whoever keeps executions writes that beside them.
  *
- * A take has at most one execution for each order of the book, so a buffer of 4,096 bytes is never too small. */
+ * A take has at most one execution for each order of the book, and at most two for a reserve order: one for each part, with its own
+ * paragraph. So a buffer of 8,192 bytes is never too small, nor one of 4,096 bytes for a book without reserve orders. */
 #define RUHVASTO_EXECUTION_BYTES 16
-#define RUHVASTO_EXECUTIONS_BYTES 4096
+#define RUHVASTO_EXECUTIONS_BYTES 8192
 
 /* THE LADDER of a book is a buffer of 6,144 bytes, 256 rows of 24 bytes, with the same order of bytes in a number. Each side and price that
  * an order has is one row. Sells come first with rising price, then buys with falling price; every byte behind the last row is zero.
@@ -111,9 +126,9 @@ extern "C" {
  *   byte 2        the side
  *   byte 3        zero
  *   byte 4 to 7   the price
- *   byte 8 to 11  the displayed shares: those of displayed orders
- *   byte 12 to 15 the other shares: those of non-displayed and of minimum quantity orders
- *   byte 16, 17   the number of orders, of whatever kind, 1 to 256
+ *   byte 8 to 11  the displayed shares: those of displayed orders, and the shown ones of reserve orders
+ *   byte 12 to 15 the other shares: those of non-displayed and of minimum quantity orders, and the hidden ones of reserve orders
+ *   byte 16, 17   the number of orders, of whatever kind, 1 to 256; a reserve order is one
  *   byte 18 to 23 zero
  *
  * There are never more rows than orders, so 256 are always enough. They end before the first whose first byte is zero, or else with the
@@ -137,8 +152,9 @@ extern "C" {
 /* Sides. */
 enum { RUHVASTO_BUY = 1, RUHVASTO_SELL = 2 };
 
-/* Kinds of order. A minimum quantity order isn't displayed either, and trades only where at least its minimum can be met. */
-enum { RUHVASTO_DISPLAYED = 1, RUHVASTO_NON_DISPLAYED = 2, RUHVASTO_MINIMUM_QUANTITY = 3 };
+/* Kinds of order. A minimum quantity order isn't displayed either, and trades only where at least its minimum can be met. A reserve order
+ * has a shown and a hidden part. */
+enum { RUHVASTO_DISPLAYED = 1, RUHVASTO_NON_DISPLAYED = 2, RUHVASTO_MINIMUM_QUANTITY = 3, RUHVASTO_RESERVE = 4 };
 
 /* Algorithms of take. */
 enum { RUHVASTO_PRICE_TIME = 1, RUHVASTO_PRO_RATA = 2, RUHVASTO_PRO_RATA_SETTER = 3 };
@@ -146,16 +162,17 @@ enum { RUHVASTO_PRICE_TIME = 1, RUHVASTO_PRO_RATA = 2, RUHVASTO_PRO_RATA_SETTER 
 /* Refusal numbers, in the order in which they are checked. What is said of add, reduce and take holds of their forms with a ladder too. */
 enum {
     RUHVASTO_ACCEPTED = 0,
-    RUHVASTO_OUT_OF_RANGE = 1,    /* a number given in the call is outside its range, a minimum by the kind and the size included */
+    RUHVASTO_OUT_OF_RANGE = 1,    /* a number given in the call is outside its range; that of a minimum, of hidden shares and of a refresh
+                                     size goes by the kind and the size */
     RUHVASTO_UNSOUND_BOOK = 2,    /* the book isn't sound, its length included */
     RUHVASTO_LADDER_LENGTH = 9,   /* calls with a ladder: its length isn't 6,144 bytes */
     RUHVASTO_OTHER_LADDER = 10,   /* calls that keep a ladder: some byte of it isn't what ruhvasto_ladder would write for the book */
     RUHVASTO_UNKNOWN_NUMBER = 3,  /* find, reduce: no order has the number */
     RUHVASTO_STALE_NUMBER = 4,    /* add: the number isn't above every number in the book */
-    RUHVASTO_COULD_TRADE = 5,     /* add: on the other side an order within the price is displayed or non-displayed, or is a minimum
-                                     quantity order whose minimum isn't above the new size */
+    RUHVASTO_COULD_TRADE = 5,     /* add: on the other side an order within the price is displayed, non-displayed or a reserve order, or is
+                                     a minimum quantity order whose minimum isn't above the new size, hidden shares added to it */
     RUHVASTO_BOOK_FULL = 6,       /* add: there is no free record */
-    RUHVASTO_TOO_MANY_SHARES = 7, /* reduce: the order has fewer shares */
+    RUHVASTO_TOO_MANY_SHARES = 7, /* reduce: the order has fewer shares, hidden ones included */
     RUHVASTO_SMALL_BUFFER = 8     /* take: the executions need more bytes than the execution buffer has */
 };
 
@@ -164,9 +181,13 @@ enum {
  *     (ruhvasto_add_request){ .side = RUHVASTO_SELL, .kind = RUHVASTO_DISPLAYED, .number = 7, .price = 100000, .size = 500 }
  *     (ruhvasto_take_request){ .side = RUHVASTO_BUY, .limit = 100000, .size = 1200, .algorithm = RUHVASTO_PRO_RATA }
  *
- * A field that isn't named is 0: here the minimum. In C++ start from ruhvasto_add_request request = {} and set fields of it. */
+ * A field that isn't named is 0: here the minimum, the hidden shares and the refresh size, which a displayed order doesn't have. In C++ start
+ * from ruhvasto_add_request request = {} and set fields of it. */
 
-/* What add is given: the fields of the new order. The ranges are those of a record. */
+/* What add is given: the fields of the new order. The ranges are those of a record, but for one: the refresh size of a reserve order is its
+ * size, that of the shown part. One that shows 100 shares and hides 250 has
+ *
+ *     .kind = RUHVASTO_RESERVE, .size = 100, .hidden = 250, .refresh = 100 */
 typedef struct {
     uint32_t side;
     uint32_t kind;
@@ -174,6 +195,8 @@ typedef struct {
     uint32_t price;
     uint32_t size;
     uint32_t minimum;
+    uint32_t hidden;
+    uint32_t refresh;
 } ruhvasto_add_request;
 
 /* What take is given: the side, limit price and size of the incoming order, ranges as in a record, and the algorithm. */
@@ -190,7 +213,7 @@ typedef struct {
     uint32_t orders;
 } ruhvasto_checked;
 
-/* What find returns: the order's own bytes are those from book + start on, length of them, 32 or, refused, 0. They lie within the book. */
+/* What find returns: the order's own bytes are those from book + start on, length of them, 40 or, refused, 0. They lie within the book. */
 typedef struct {
     uint32_t refusal;
     size_t start;
@@ -217,26 +240,30 @@ ruhvasto_checked ruhvasto_check(const uint8_t *book, size_t book_len);
 RUHVASTO_USE_ANSWER RUHVASTO_NO_NULL
 ruhvasto_found ruhvasto_find(const uint8_t *book, size_t book_len, uint32_t number);
 
-/* Puts an order last in the book. It gets the setter mark exactly if it is displayed, has a round lot or more, and is priced strictly
- * better (a buy higher, a sell lower) than every displayed order on its side; so it does if there is none.
+/* Puts an order last in the book. It gets the setter mark exactly if it is a displayed order or a reserve order, displays a round lot or
+ * more, and is priced strictly better (a buy higher, a sell lower) than every order of these two kinds on its side; so it does if there is
+ * none.
  * Accepted, the order's record stands behind the others, no other byte is changed, and the book is sound.
  * Refusals: RUHVASTO_OUT_OF_RANGE, RUHVASTO_UNSOUND_BOOK, RUHVASTO_STALE_NUMBER, RUHVASTO_COULD_TRADE, RUHVASTO_BOOK_FULL. */
 RUHVASTO_USE_ANSWER RUHVASTO_NO_NULL
 uint32_t ruhvasto_add(uint8_t *book, size_t book_len, ruhvasto_add_request request);
 
-/* Takes shares, 1 to 999,999, from the order of this number. A minimum above the new size becomes the new size. An order without shares
- * leaves: later orders move up one record, and the last record that was used becomes zero. Accepted, the book is sound.
+/* Takes shares, 1 to 999,999, from the order of this number; from a reserve order hidden ones first, and shown ones when no hidden one is
+ * left. It refreshes nothing. A minimum above the new size becomes the new size. An order without shares leaves: later orders move up one
+ * record, and the last record that was used becomes zero. Accepted, the book is sound. A reserve order may have more shares than one call
+ * can take.
  * Refusals: RUHVASTO_OUT_OF_RANGE, RUHVASTO_UNSOUND_BOOK, RUHVASTO_UNKNOWN_NUMBER, RUHVASTO_TOO_MANY_SHARES. */
 RUHVASTO_USE_ANSWER RUHVASTO_NO_NULL
 uint32_t ruhvasto_reduce(uint8_t *book, size_t book_len, uint32_t number, uint32_t shares);
 
 /* The incoming order takes shares from the orders of the other side that are priced at its limit or better, the best price first, under the
  * algorithm. Each execution is at the resting order's price.
- * Accepted, the executions stand at the start of their buffer, one for each order that gave shares, by price (the best first), then by
- * paragraph of the rule, then by rising order number; the bytes behind them are unchanged. In the book each of these orders has so many
- * shares less, and a minimum above its new size has become the new size; orders without shares are gone and later ones moved up; the book
- * is sound. What is left of the incoming order isn't put in the book: that is add's part. Added next, on its side and at its limit, it is
- * never refused RUHVASTO_COULD_TRADE.
+ * Accepted, the executions stand at the start of their buffer, one for each order that gave shares, of a reserve order one for each part
+ * that did, by price (the best first), then by paragraph of the rule, then by rising order number; the bytes behind them are unchanged. In
+ * the book each of these orders has so many shares less, of a reserve order each part; a minimum above its new size has become the new
+ * size; a reserve order is refreshed where no shown share is left; orders without shares are gone and later ones moved up; the book is
+ * sound. What is left of the incoming order isn't put in the book: that is add's part. Added next, on its side and at its limit, with that
+ * many shares in all, it is never refused RUHVASTO_COULD_TRADE.
  * The execution buffer may have any length; only what the executions need is asked for, nothing where there are none.
  * Refusals: RUHVASTO_OUT_OF_RANGE, RUHVASTO_UNSOUND_BOOK, RUHVASTO_SMALL_BUFFER. */
 RUHVASTO_USE_ANSWER RUHVASTO_NO_NULL
@@ -301,10 +328,10 @@ RUHVASTO_NO_NULL static inline uint32_t ruhvasto_number_at(const uint8_t *bytes)
 
 /* The fields of a record. */
 typedef struct {
-    uint32_t side, kind, number, price, size, minimum, setter;
+    uint32_t side, kind, number, price, size, minimum, setter, hidden, refresh;
 } ruhvasto_order;
 
-/* Of the 32 bytes of a record. */
+/* Of the 40 bytes of a record. */
 RUHVASTO_NO_NULL static inline ruhvasto_order ruhvasto_order_at(const uint8_t *record)
 {
     ruhvasto_order order;
@@ -315,6 +342,8 @@ RUHVASTO_NO_NULL static inline ruhvasto_order ruhvasto_order_at(const uint8_t *r
     order.size = ruhvasto_number_at(record + 12);
     order.minimum = ruhvasto_number_at(record + 16);
     order.setter = record[20];
+    order.hidden = ruhvasto_number_at(record + 32);
+    order.refresh = ruhvasto_number_at(record + 36);
     return order;
 }
 

@@ -1,8 +1,8 @@
 """docs/CALLS.md: the tables of calls, and the cases by hand."""
 import re
 
-from pages.library import (CALLS, FORMS, Take, Wrong, answer, executions_in, fillsheet, listed, orders_in, rows_in, sheet_of, totals,
-                           traded)
+from pages.library import (CALLS, FORMS, KINDS, RECORD, Take, Wrong, answer, executions_in, fillsheet, listed, orders_in, rows_in, sheet_of,
+                           totals, traded)
 from pages.markdown import codes, figures, number, read
 from pages.page import Page, tried, values_in
 
@@ -17,9 +17,9 @@ class Calls(Page):
         "field | accepted | refused": "answers",
         "buffer | answer: refusal, orders": "checks",
         "buffer | looked for | answer: refusal, start, length": "finds",
-        "side, kind, number, price, size, minimum | returned | why": "adds",
-        "record | side | kind | number | price | size | minimum | setter mark": "records",
-        "number, shares | returned | orders afterwards: number, kind, size/minimum": "reduces",
+        "side, kind, number, price, size, minimum, hidden, refresh | returned | why": "adds",
+        "record | side | kind | number | price | size | minimum | setter mark | hidden shares | refresh size": "records",
+        "number, shares | returned | orders afterwards: number, kind, size": "reduces",
         "side, limit, size, algorithm | bytes for executions | returned: refusal, count, left | executions, in order | orders afterwards":
             "taken",
         "buffer | bytes of the ladder | returned": "ladders",
@@ -29,11 +29,11 @@ class Calls(Page):
         "order | size | exact share | first step | lacks | rest | second step | gets": "sharing",
         "algorithm | paragraph | order | minimum | shares left | gets": "turns",
     }
-    has = {"refusals": 1, "stack": 1, "prototypes": 7, "ranges": 4, "answers": 3, "checks": 1, "finds": 1, "adds": 1, "records": 1, "reduces": 1,
-           "taken": 1, "ladders": 1, "rows": 1, "kept": 1, "paragraphs": 1, "sharing": 5, "printed": 3, "turns": 1}
+    has = {"refusals": 1, "stack": 1, "prototypes": 7, "ranges": 4, "answers": 3, "checks": 1, "finds": 1, "adds": 2, "records": 2, "reduces": 2,
+           "taken": 2, "ladders": 1, "rows": 1, "kept": 1, "paragraphs": 1, "sharing": 5, "printed": 3, "turns": 1}
     prose = ("condition", "why")
-    given = ("buffer", "looked for", "side, kind, number, price, size, minimum", "number, shares", "side, limit, size, algorithm", "bytes for executions",
-             "bytes of the ladder", "numbers; of take then the bytes for executions", "ladder")
+    given = ("buffer", "looked for", "side, kind, number, price, size, minimum, hidden, refresh", "number, shares", "side, limit, size, algorithm",
+             "bytes for executions", "bytes of the ladder", "numbers; of take then the bytes for executions", "ladder")
 
     def code(self, lines):
         return "prototypes" if lines[0].startswith("C  ") else "printed" if self.before.endswith("Printed:") else None
@@ -68,29 +68,34 @@ class Calls(Page):
     # Whether the call of this section refuses 1, given some numbers in the place of its usual ones.
     def refuses(self, **changed):
         usual = {"Find": {"number": 1}, "Reduce": {"number": 1, "shares": 1}, "Take": {"side": 1, "limit": 1, "size": 1, "algorithm": 1},
-                 "Add": {"side": 1, "kind": 1, "number": 1, "price": 1, "size": 500, "minimum": 0}}[self.heading]
+                 "Add": {"side": 1, "kind": 1, "number": 1, "price": 1, "size": 500, "minimum": 0, "hidden": 0, "refresh": 0}}[self.heading]
         if set(changed) - set(usual):
             raise Wrong(f"no such number: {changed}")
         if self.heading == "Add" and changed.get("kind") == 3:
             changed.setdefault("minimum", 1)
+        if self.heading == "Add" and changed.get("kind") == 4:
+            changed.setdefault("refresh", changed.get("size", 500))
         returned, _, _ = self.library.call(self.heading.lower(), b"", *{**usual, **changed}.values())
         return returned[0] == 1
 
-    # Every range is tried at its ends and right outside, each value of a list too.
+    # Every range is tried at its ends and right outside, each value of a list too; of add for each kind that the row speaks of.
     def ranges(self, rows):
         fields = {"Find": ["`number`"], "Reduce": ["`number`", "`shares`"], "Take": ["`side`", "`limit`", "`size`", "`algorithm`"],
-                  "Add": ["`side`", "`kind`", "`number`", "`price`", "`size`", "`minimum`, kind 3", "`minimum`, kinds 1 and 2"]}[self.heading]
+                  "Add": ["`side`", "`kind`", "`number`", "`price`", "`size`", "`minimum`, kind 3", "`minimum`, kinds 1, 2 and 4", "`hidden`, kind 4",
+                          "`hidden`, kinds 1, 2 and 3", "`refresh`, kind 4", "`refresh`, kinds 1, 2 and 3"]}[self.heading]
         self.hold(rows[0][0], [row[0] for _, row in rows], fields)
         for line, (name, values) in rows:
             ends, inside = values_in(values, 500)
-            for kind in figures(name) or [None]:
+            all_kinds = KINDS.values() if self.heading == "Add" and name != "`kind`" else [None]
+            for kind in figures(name) or all_kinds:
                 base = {} if kind is None else {"kind": kind}
                 refused = [value for value in tried(ends) if self.refuses(**base, **{codes(name)[0]: value})]
                 self.hold(line, [value for value in tried(ends) if not inside(value)], refused)
 
     def answers(self, rows):
         call, record, orders = self.heading.lower(), self.header["RECORD_BYTES"], self.header["BOOK_ORDERS"]
-        accepted = {"check": {"`refusal`": [0], "`orders`": [0, orders]}, "take": {"`refusal`": [0], "`count`": [0, orders], "`left`": []},
+        most = self.header["EXECUTIONS_BYTES"] // self.header["EXECUTION_BYTES"]
+        accepted = {"check": {"`refusal`": [0], "`orders`": [0, orders]}, "take": {"`refusal`": [0], "`count`": [0, most], "`left`": []},
                     "find": {"`refusal`": [0], "`start`": [record], "`length`": [record], "the part, in Rattle": [record]}}[call]
         for (line, row), (name, numbers) in zip(rows, accepted.items(), strict=True):
             refused = self.header.of_call[call] if name == "`refusal`" else [0]
@@ -101,6 +106,9 @@ class Calls(Page):
     def buffer(self, said):
         if match := re.match(r"(\d+) zeros$", said):
             return bytes(int(match[1]))
+        if match := re.match(r"the book, in records of (\d+) bytes with the mark (\w\w \w\w) hex$", said):
+            mark, size = bytes.fromhex(match[2]), int(match[1])
+            return b"".join(mark + self.book[at + 2:at + size] for at in range(0, len(self.book), RECORD))
         match = re.match(r"the book(?:, byte (\d+) = (\w\w) hex)?$", said)
         data = bytearray(self.book)
         if match[1]:
@@ -119,8 +127,7 @@ class Calls(Page):
 
     def adds(self, rows):
         for line, (numbers, said, _) in rows:
-            side, kind, order, price, size, minimum = figures(numbers)
-            returned, self.book, _ = self.library.call("add", self.book, side, kind, order, price, size, minimum)
+            returned, self.book, _ = self.library.call("add", self.book, *figures(numbers))
             self.hold(line, said, str(returned[0]))
 
     def records(self, rows):
@@ -191,13 +198,15 @@ class Calls(Page):
         for algorithm, column in (1, 1), (2, 2), (3, 2):
             self.named(rows[0][0], [(number(row[0]), row[column]) for _, row in rows], algorithm)
 
-    # Of each kind an order of a lot, and one below it: its execution names the one paragraph whose group it is in.
+    # Of each kind an order of a lot, and one below it, of a reserve order each part: its execution names the one paragraph whose group it is in.
     def named(self, line, groups, algorithm):
         lot = self.header["ROUND_LOT"]
-        book = self.library.book(", ".join(f"D {n}, H {n}, M {n}/1" for n in (lot, lot - 1)))
-        executions = self.library.take(book, Take(1, 100000, 6 * lot, algorithm))[1]
-        said = [[paragraph for paragraph, cell in groups if is_in(o, cell)] for o in orders_in(book)]
-        self.hold(line, said, [[e.paragraph] for e in sorted(executions)])
+        sizes = (lot, lot - 1)
+        book = self.library.book(", ".join([f"D {n}, H {n}, M {n}/1" for n in sizes] + [f"R {n}+{m}/{n}" for n in sizes for m in sizes]))
+        executions = self.library.take(book, Take(1, 100000, 14 * lot, algorithm))[1]
+        said = [[paragraph for paragraph, cell in groups if is_in(part, cell)] for o in orders_in(book) for part in parts_of(o)]
+        named = sorted(executions, key=lambda e: (e.number, e.paragraph))  # the shown part's paragraph is the lower
+        self.hold(line, [said, [p.size for o in orders_in(book) for p in parts_of(o)]], [[[e.paragraph] for e in named], [e.shares for e in named]])
 
     # The orders that the take may trade with; in a case by hand they are at one price.
     def opposite(self):
@@ -285,6 +294,11 @@ def lot_sharing(shares, orders, lot):
         steps[o.number] = (o.size * shares * 10 // total, first[o.number], rest, second)
         rest -= second
     return steps
+
+
+# The parts of an order, as orders of kinds 1 to 3: of a reserve order two.
+def parts_of(order):
+    return [order._replace(kind=1), order._replace(kind=2, size=order.hidden)] if order.kind == 4 else [order]
 
 
 # Whether an order is in the group of a cell of the table of paragraphs: 'non-displayed, 100 or more: lot sharing'.

@@ -1,11 +1,13 @@
 """docs/FORMATS.md: limits, layouts, dumps and sheets."""
 import re
 
-from pages.library import Execution, Row, SIDES, Take, answer, dump, executions_in, fillsheet, is_longest_sheet, orders_in, rows_in, traded
+from pages.library import (RECORD, Execution, Row, SIDES, Take, Wrong, answer, dump, executions_in, fillsheet, is_longest_sheet, orders_in,
+                           rows_in, traded)
 from pages.markdown import codes, figures, number, read
 from pages.page import Page, tried, values_in
 
-FIELDS = {"mark": 2, "side": 1, "kind": 1, "order number": 4, "price": 4, "size": 4, "minimum": 4, "setter mark": 1, "none": 11}
+FIELDS = {"mark": 2, "side": 1, "kind": 1, "order number": 4, "price": 4, "size": 4, "minimum": 4, "setter mark": 1, "none": 11,
+          "hidden shares": 4, "refresh size": 4}
 
 
 class Formats(Page):
@@ -18,7 +20,7 @@ class Formats(Page):
         "number | when": "printable",
         "line | printed | why": "lines",
     }
-    has = {"limits": 1, "layout": 3, "dump": 6, "fields": 1, "grammar": 2, "commands": 1, "printable": 1, "sheet": 1, "printed": 1, "lines": 1}
+    has = {"limits": 1, "layout": 3, "dump": 9, "fields": 2, "grammar": 2, "commands": 1, "printable": 1, "sheet": 1, "printed": 1, "lines": 1}
     prose = ("why", "meaning")
     given = ("line",)
 
@@ -34,19 +36,34 @@ class Formats(Page):
         true = {
             "bytes of a book": [0, h["BOOK_BYTES"]], "bytes of a record": [h["RECORD_BYTES"]] * 2, "orders of a book": [0, h["BOOK_ORDERS"]],
             "order number": [1, 4294967295], "price, limit price": [1, h["PRICE_MOST"]], "size, shares of a reduce": [1, h["SIZE_MOST"]],
-            "minimum, kind 3": [1], "minimum, kinds 1 and 2": [0, 0], "bytes of an execution": [h["EXECUTION_BYTES"]] * 2,
-            "bytes of an execution buffer": [0, h["EXECUTIONS_BYTES"]],
+            "minimum, kind 3": [1], "minimum, kinds 1, 2 and 4": [0, 0], "hidden shares, kind 4": [0, h["SIZE_MOST"]],
+            "refresh size, kind 4": [1, h["SIZE_MOST"]], "hidden shares and refresh size, kinds 1, 2 and 3": [0, 0],
+            "bytes of an execution": [h["EXECUTION_BYTES"]] * 2,
+            "bytes of an execution buffer": [0, self.enough("R 1+1/1"), self.enough("D 2"), h["RESERVE"]],
             "executions of one take": [0, h["EXECUTIONS_BYTES"] // h["EXECUTION_BYTES"]],
             "paragraph of an execution": [min(self.named(2)), max(self.named(2)), max(self.named(1)), 1],
             "shares of an execution": [1, h["SIZE_MOST"]],
             "bytes of a ladder": [h["LADDER_BYTES"]] * 2, "bytes of a row": [h["ROW_BYTES"]] * 2,
-            "rows of a ladder": [0, h["LADDER_ROWS"]], "displayed shares, other shares of a row": [0, self.largest().displayed],
+            "rows of a ladder": [0, h["LADDER_ROWS"]], "displayed shares, other shares of a row": [0, *{*self.largest()[2:4]}],
             "orders of a row": [1, self.largest().orders],
             "bytes of a sheet for `fillsheet`": [0, 65536],
         }
         for (line, row), (what, numbers) in zip(rows, true.items(), strict=True):
             self.hold(line, [row[0], figures(row[1]) + figures(row[2])], [what, numbers])
         self.hold(rows[-1][0], is_longest_sheet(number(rows[-1][1][2])), True)
+
+    def meet_text(self, block):
+        super().meet_text(block)
+        if self.heading == "Is a book sound? A checklist" and block.lines[0].startswith("1. "):
+            self.checklist(block.line)
+
+    # The numbers of the list are those of the tables.
+    def checklist(self, line):
+        h = self.header
+        words = [f"at most {h['BOOK_BYTES']:,} bytes", f"a multiple of {h['RECORD_BYTES']}.",
+                 f"begins with {self.library.book('D 1')[:2].hex(' ').upper()} hex", f"a price of 1 to {h['PRICE_MOST']:,};",
+                 f"a size of 1 to {h['SIZE_MOST']:,};", f"0 to {h['SIZE_MOST']:,} hidden shares and a refresh size of 1 to {h['SIZE_MOST']:,},"]
+        self.hold(line, [said for said in words if said in self.before], words)
 
     # A form of bytes: places without a gap, widths, and the values at each.
     def layout(self, rows):
@@ -62,21 +79,33 @@ class Formats(Page):
             field_holds(line, first, int(width), field, values)
         self.hold(rows[-1][0], at, self.header[size])
 
+    # The fewest bytes for the executions of a take that fills as many orders as a book can have, all alike and of two shares.
+    def enough(self, order):
+        book = self.library.book(", ".join([order] * self.header["BOOK_ORDERS"]))
+        take = 1, 100000, 2 * self.header["BOOK_ORDERS"], 1
+        (_, count, left), _, _ = self.library.call("take", book, *take, executions=bytes(self.header["EXECUTIONS_BYTES"]))
+        need = count * self.header["EXECUTION_BYTES"]
+        short = self.library.call("take", book, *take, executions=bytes(need - 1))[0]
+        if left or short != (8, 0, 0):
+            raise Wrong(f"it takes {count} executions, leaves {left} and says {short}")
+        return need
+
     # The row of as many orders of the largest size as a book can have.
     def largest(self):
-        (row,) = rows_in(self.library.ladder(self.library.book(", ".join([f"D {self.header['SIZE_MOST']}"] * self.header["BOOK_ORDERS"]))))
+        most = self.header["SIZE_MOST"]
+        (row,) = rows_in(self.library.ladder(self.library.book(", ".join([f"R {most}+{most}/{most}"] * self.header["BOOK_ORDERS"]))))
         return row
 
     # Of a row with numbers that differ, and of the largest.
     def row_field(self, line, first, width, field, values):
-        ladder = self.library.ladder(self.library.book("D 600 at 4660, H 500 at 4660, M 400/1 at 4660"))
+        ladder = self.library.ladder(self.library.book("D 600 at 4660, H 500 at 4660, M 400/1 at 4660, R 30+7/30 at 4660"))
         true = {0: ("mark", ladder[:2].hex(" ").upper() + " hex", 0x444c), 2: ("side", "1 buy, 2 sell", 2), 3: ("none", "zero", 0),
                 4: ("price", "as in the records", 4660),
-                8: ("displayed shares, those of orders of kind 1", f"0 to {self.largest().displayed:,}", 600),
-                12: ("other shares, those of orders of kinds 2 and 3", f"0 to {self.largest().displayed:,}", 900),
-                16: ("number of orders, of whatever kind", f"1 to {self.largest().orders}", 3), 18: ("none", "zero", 0)}[first]
+                8: ("displayed shares: those of kind 1, and the shown ones of kind 4", f"0 to {self.largest().displayed:,}", 630),
+                12: ("other shares: those of kinds 2 and 3, and the hidden ones of kind 4", f"0 to {self.largest().other:,}", 907),
+                16: ("number of orders, of whatever kind", f"1 to {self.largest().orders}", 4), 18: ("none", "zero", 0)}[first]
         self.hold(line, (field, values, int.from_bytes(ladder[first:first + width], "little")), true)
-        self.hold(line, rows_in(ladder), [Row(2, 4660, 600, 900, 3)])
+        self.hold(line, rows_in(ladder), [Row(2, 4660, 630, 907, 4)])
 
     # The paragraphs that executions name, where a take fills an order for each.
     def named(self, algorithm):
@@ -102,9 +131,13 @@ class Formats(Page):
         if field == "mark":
             mark = int.from_bytes(bytes.fromhex(values.removesuffix(" hex")), "little")
             return self.hold(line, [self.is_sound(first, width, value) for value in (mark, mark ^ 1, mark ^ 256)], [True, False, False])
-        fixed = {"minimum": ("1 to the size for kind 3, 0 for kinds 1 and 2", {3: "1 to the size", 1: "0", 2: "0"}),
-                 "setter mark": ("0 or 1; 1 only for kind 1", {1: "0 to 1", 2: "0", 3: "0"}), "none": ("zero", {1: "0"})}
-        words, kinds = fixed.get(field, (values, {1: values}))
+        fixed = {"kind": (values, {1: values}),
+                 "minimum": ("1 to the size for kind 3, 0 for kinds 1, 2 and 4", {3: "1 to the size", 1: "0", 2: "0", 4: "0"}),
+                 "setter mark": ("0 or 1; 1 only for kinds 1 and 4", {1: "0 to 1", 2: "0", 3: "0", 4: "0 to 1"}),
+                 "none": ("zero", {kind: "0" for kind in (1, 2, 3, 4)}),
+                 "hidden shares": ("0 to 999,999 for kind 4, 0 for kinds 1, 2 and 3", {4: "0 to 999,999", 1: "0", 2: "0", 3: "0"}),
+                 "refresh size": ("1 to 999,999 for kind 4, 0 for kinds 1, 2 and 3", {4: "1 to 999,999", 1: "0", 2: "0", 3: "0"})}
+        words, kinds = fixed.get(field, (values, {1: values, 4: values}))
         self.hold(line, values, words)
         for kind, range_ in kinds.items():
             ends, inside = values_in(range_, 500)
@@ -112,10 +145,11 @@ class Formats(Page):
             self.hold(line, [value for value in tried(ends, width) if inside(value)], true)
 
     def is_sound(self, first, width, value, kind=1):
-        record = bytearray(self.library.book({1: "D 500", 2: "H 500", 3: "M 500/500"}[kind]))
+        books = {1: "D 500", 2: "H 500", 3: "M 500/500", 4: "R 500+500/500"}
+        record = bytearray(self.library.book(books[kind]))
+        if (first, width) == (3, 1) and value in books:  # another kind has other numbers
+            record = bytearray(self.library.book(books[value]))
         record[first:first + width] = value.to_bytes(width, "little")
-        if (first, width) == (3, 1):  # another kind has another minimum, and no mark
-            record[16:20], record[20] = (500 if value == 3 else 0).to_bytes(4, "little"), 0
         return self.library.call("check", bytes(record))[0][0] == 0
 
     def word_take(self, line, said):
@@ -131,18 +165,28 @@ class Formats(Page):
         (refusal,), self.book, _ = self.library.call("reduce", self.book, order, shares)
         self.hold(line, refusal, 0)
 
+    # What an order with two executions lost in each part, and what it shows of what is left.
+    def word_refresh(self, line, said):
+        pattern = r"order (\d+), which lost ([\d,]+) shown and ([\d,]+) of ([\d,]+) hidden shares, shows ([\d,]+) of the ([\d,]+) that are left$"
+        order, *numbers = map(number, re.match(pattern, said).groups())
+        (before,), (after,) = ([o for o in orders_in(book) if o.number == order] for book in (self.start, self.book))
+        shown, hidden = (e.shares for e in executions_in(self.count, self.executions) if e.number == order)
+        self.hold(line, numbers, [shown, hidden, before.hidden, after.size, after.size + after.hidden])
+        self.hold(line, [after.price, after.refresh, after.setter], [before.price, before.refresh, before.setter])
+
     def dump(self, line, lines):
         of = re.match(r"\*\*Dump\*\* of the (book|execution buffer|ladder)\b", self.before)[1]
         if of == "ladder":
             return self.dump_ladder(line, lines)
         if of == "book":
             orders = orders_in(self.book)
-            remarks = {32 * i: f"order {o.number}" for i, o in enumerate(orders)} | {32 * len(orders): "free"}
+            remarks = {RECORD * i: f"order {o.number}" for i, o in enumerate(orders)} | {RECORD * len(orders): "free"}
+            self.dumped, width = self.book, RECORD // 2
         else:
             executions = executions_in(self.count, self.executions)
             remarks = {16 * i: traded([e]) for i, e in enumerate(executions)} | {16 * self.count: "as it was"}
-        self.dumped = self.book if of == "book" else self.executions
-        for i, (said, true) in enumerate(zip(lines, dump(self.dumped, remarks), strict=True)):
+            self.dumped, width = self.executions, 16
+        for i, (said, true) in enumerate(zip(lines, dump(self.dumped, remarks, width), strict=True)):
             self.hold(line + i, said, true)
 
     # Its rows, and one behind them; rows_in has seen that all behind them is zero.
@@ -157,7 +201,7 @@ class Formats(Page):
     # A record of the last dump, field by field.
     def fields(self, rows):
         start = int(rows[0][1][0].split()[0], 16)
-        record = self.dumped[start:start + 32]
+        record = self.dumped[start:start + RECORD]
         self.hold(rows[0][0], self.before, f"The record of order {orders_in(record)[0].number}, field by field:")
         at = 0
         for (line, row), (field, width) in zip(rows, FIELDS.items(), strict=True):

@@ -11,11 +11,12 @@ HEADER, ARCHIVE, FILLSHEET = "include/ruhvasto.h", "target/staticlib/libruhvasto
 CALLS = ["check", "find", "add", "reduce", "take", "ladder"]
 FORMS = ["add", "reduce", "take"]  # the calls that also have a form with a ladder
 SIDES = {"buy": 1, "sell": 2}
-KINDS = {"D": 1, "H": 2, "M": 3}
-ORDER = re.compile(r"(?:(buy|sell) )?([DHM]) ([\d,]+)(?:/([\d,]+))?(?: at (\d+))?$")
+KINDS = {"D": 1, "H": 2, "M": 3, "R": 4}
+ORDER = re.compile(r"(?:(buy|sell) )?([DHMR]) ([\d,]+)(?:\+([\d,]+))?(?:/([\d,]+))?(?: at (\d+))?$")
+RECORD = 40  # bytes
 TAKE = re.compile(r"(buy|sell) ([\d,]+)(?: at (\d+))?, algorithms? (\d)(?: and (\d))?$")
 
-Order = collections.namedtuple("Order", "side kind number price size minimum setter")
+Order = collections.namedtuple("Order", "side kind number price size minimum setter hidden refresh")
 Execution = collections.namedtuple("Execution", "number price shares paragraph")
 Row = collections.namedtuple("Row", "side price displayed other orders")
 Take = collections.namedtuple("Take", "side limit size algorithm")
@@ -76,30 +77,38 @@ class Library:
             raise Wrong(f"the ladder is refused {refusal}")
         return ladder
 
-    # A book made by adding orders: 'D 600, buy M 500/400 at 99900', with '4 records, ' in front where it has room for more.
+    # A book made by adding orders: 'D 600, buy M 500/400 at 99900, R 100+250/100', with '4 records, ' in front where it has room for more.
     @functools.lru_cache(maxsize=None)
     def book(self, said):
         room = re.match(r"(\d+) records, ", said)
         said = said[room.end():] if room else said
         words = [] if said == "empty" else said.split(", ")
-        book = bytes(32 * (int(room[1]) if room else len(words)))
+        book = bytes(RECORD * (int(room[1]) if room else len(words)))
         for place, word in enumerate(words, 1):
-            match = ORDER.match(word)
-            if not match or (match[2] == "M") != bool(match[4]):
-                raise Wrong(f"no order: {word}")
-            numbers = (SIDES[match[1] or "sell"], KINDS[match[2]], place, int(match[5] or 100000), number(match[3]), number(match[4] or "0"))
-            (refusal,), book, _ = self.call("add", book, *numbers)
+            (refusal,), book, _ = self.call("add", book, *request(word, place))
             if refusal:
                 raise Wrong(f"refused {refusal}: {word}")
         return book
 
     # A take from a book that has room for all its executions: what each order gets, the executions, what is left, the book afterwards.
     def take(self, book, take):
-        (refusal, count, left), after, buffer = self.call("take", book, *take, executions=bytes(4096))
+        (refusal, count, left), after, buffer = self.call("take", book, *take, executions=bytes(8192))
         if refusal:
             raise Wrong(f"the take is refused {refusal}")
-        executions = executions_in(count, buffer)
-        return collections.Counter({e.number: e.shares for e in executions}), executions, left, after
+        executions, gets = executions_in(count, buffer), collections.Counter()
+        for e in executions:
+            gets[e.number] += e.shares
+        return gets, executions, left, after
+
+
+# What add is given for an order as the pages write it, with this number.
+def request(word, place):
+    match = ORDER.match(word)
+    if not match or (bool(match[4]), bool(match[5])) != (match[2] == "R", match[2] in "MR"):
+        raise Wrong(f"no order: {word}")
+    size, hidden, behind = (number(words or "0") for words in match.group(3, 4, 5))
+    minimum, refresh = (behind, 0) if match[2] == "M" else (0, behind)
+    return SIDES[match[1] or "sell"], KINDS[match[2]], place, int(match[6] or 100000), size, minimum, hidden, refresh
 
 
 # Takes as the pages write them, one for each algorithm: 'buy 220 at 100000, algorithms 1 and 2'.
@@ -137,8 +146,8 @@ def numbers_at(data, places):
 
 
 def orders_in(book):
-    records = (book[at:at + 32] for at in range(0, len(book), 32))
-    return [Order(r[2], r[3], *numbers_at(r, (4, 8, 12, 16)), r[20]) for r in records if r[0]]
+    records = (book[at:at + RECORD] for at in range(0, len(book), RECORD))
+    return [Order(r[2], r[3], *numbers_at(r, (4, 8, 12, 16)), r[20], *numbers_at(r, (32, 36))) for r in records if r[0]]
 
 
 def executions_in(count, buffer):
@@ -159,10 +168,10 @@ def letter(kind):
     return next(name for name, value in KINDS.items() if value == kind)
 
 
-# Orders as the tables have them: number, kind, size and minimum.
+# Orders as the tables have them: number, kind, and size; of kind 3 the minimum, of kind 4 the hidden shares and the refresh size.
 def listed(orders):
-    sizes = (f"{o.number} {letter(o.kind)} {o.size:,}" + (f"/{o.minimum:,}" if o.kind == 3 else "") for o in orders)
-    return ", ".join(sizes) or "none"
+    behind = {3: "/{0.minimum:,}", 4: "+{0.hidden:,}/{0.refresh:,}"}
+    return ", ".join(f"{o.number} {letter(o.kind)} {o.size:,}" + behind.get(o.kind, "").format(o) for o in orders) or "none"
 
 
 def traded(executions):
@@ -179,7 +188,7 @@ def answer(numbers):
 
 
 # Bytes as a dump has them, so many to a line, with a remark behind some lines.
-def dump(data, remarks, width=16):
+def dump(data, remarks, width):
     for at in range(0, len(data), width):
         row = data[at:at + width]
         words = "  ".join(row[i:i + 4].hex(" ") for i in range(0, width, 4))

@@ -5,7 +5,7 @@ import re
 import subprocess
 import tempfile
 
-from pages.library import compile_c, orders_in, sheet_of, takes_in
+from pages.library import compile_c, listed, orders_in, sheet_of, takes_in
 from pages.markdown import codes, number, read
 from pages.page import Page
 
@@ -45,8 +45,9 @@ class Readings(Page):
     tables = {
         "case | book | incoming | each gets | left | shows": "cases",
         "reading | book | incoming | each gets | still rests | left | another reading would give": "apart",
+        "reading | book | incoming | executions | still rests | left | another reading would give": "parts_apart",
     }
-    has = {"cases": 1, "apart": 1}
+    has = {"cases": 1, "apart": 1, "parts_apart": 1}
     only_read = ("point | decided | reason",)
     prose = ("case", "reading", "shows", "another reading would give")
     given = ("book", "incoming")
@@ -80,6 +81,19 @@ class Readings(Page):
             self.hold(line, (gets, rests, left), self.shares(line, book, incoming)[:3])
 
 
+    # The executions of each take one by one, and what rests in the end.
+    def parts_apart(self, rows):
+        for line, (_, book, incoming, executions, rests, left, _) in rows:
+            after, made, remain = self.library.book(book), [], []
+            prices = {o.number: o.price for o in orders_in(after)}
+            for (take,) in map(takes_in, incoming.split("; ")):
+                _, found, over, after = self.library.take(after, take)
+                self.hold(line, [e.price for e in found], [prices[e.number] for e in found])
+                made.append(", ".join(f"p{e.paragraph} #{e.number} {e.shares:,}" for e in found))
+                remain.append(f"{over:,}")
+            self.hold(line, (executions, rests, left), ("; ".join(made), listed(orders_in(after)), "; ".join(remain)))
+
+
 # Whether a sheet begins so. One that sets no algorithm has the first.
 def begins(sheet, lines):
     sheet = sheet if sheet[0].startswith("A ") else ["A 1", *sheet]
@@ -96,7 +110,7 @@ class Edition2(Page):
 
     # The lines that a program moves over to compile, and are accepted.
     def now(self, line, lines):
-        body = "uint8_t book[32] = {0}, executions[16]; uint32_t refusal; ruhvasto_taken taken;"
+        body = "uint8_t book[RUHVASTO_RECORD_BYTES] = {0}, executions[RUHVASTO_EXECUTION_BYTES]; uint32_t refusal; ruhvasto_taken taken;"
         self.hold(line, output_of(["#include <ruhvasto.h>", "int main(void) {", body, *lines, "return refusal + taken.refusal; }"]), [])
 
 

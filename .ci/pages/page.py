@@ -6,7 +6,7 @@ from pages.library import Wrong, takes_in
 from pages.markdown import NUMBER, blocks, cells, figures, title
 
 # What a page says in a fixed wording beside its tables.
-WORDS = re.compile(r"\*\*(Book|Take|Reduce|Guarantee):\*\* (.*?)\.(?= |$)")
+WORDS = re.compile(r"\*\*(Book|Take|Reduce|Refresh|Guarantee):\*\* (.*?)\.(?= |$)")
 
 
 class Page:
@@ -92,7 +92,7 @@ class Page:
 
     def places_in_words(self, block):
         for i, line in enumerate(block.lines):
-            for match in re.finditer(r"\*\*(?:Book|Take|Reduce|Guarantee):\*\* .*?(?:\.(?= |$)|$)|S = [\d,]+, Q = [\d,]+|`\{.*?\}`", line):
+            for match in re.finditer(r"\*\*(?:Book|Take|Reduce|Refresh|Guarantee):\*\* .*?(?:\.(?= |$)|$)|S = [\d,]+, Q = [\d,]+|`\{.*?\}`", line):
                 shift = match.start()
                 given = match[0].startswith(("**Book", "**Take", "**Reduce"))
                 yield from ((block.line + i, shift + a, shift + b, given) for a, b in spans(match[0]))
@@ -119,9 +119,11 @@ def spans(line):
     return [match.span() for match in re.finditer(pattern, line)]
 
 
-# The values that a range names: its two ends, or each value of a list such as '1 buy, 2 sell'.
+# The values that a range names: its two ends, or each value of a list such as '1 buy, 2 sell', or the size alone.
 def values_in(text, size):
     text = text.split(";")[0]
+    if text == "the size":
+        text = str(size)
     if match := re.match(r"([\d,]+) to (the size|[\d,]+)$", text):
         least, most = figures(match[1])[0], size if match[2] == "the size" else figures(match[2])[0]
         return [least, most], lambda value: least <= value <= most

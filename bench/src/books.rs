@@ -52,6 +52,18 @@ pub fn displayed(count: u32, many_prices: bool) -> Vec<Order> {
         .collect()
 }
 
+/// Reserve sells at one price, which show and hide mixed sizes.
+pub fn reserves(count: u32) -> Vec<Order> {
+    (0..count)
+        .map(|place| {
+            let refresh = mixed_size(place);
+            let hidden = mixed_size(count - place);
+            let kind = Kind::Reserve { hidden, refresh };
+            sell(place, kind, BEST_PRICE, refresh)
+        })
+        .collect()
+}
+
 /// Displayed sells of mixed sizes, those at some places a cent better priced than
 /// the others.
 pub fn better_at(count: u32, is_better: impl Fn(u32) -> bool) -> Vec<Order> {
@@ -157,22 +169,28 @@ pub fn both_sides(count: u32, prices: u32) -> Vec<Order> {
 pub fn entered(orders: &[Order], records: u32) -> Vec<u8> {
     let mut book = vec![0; records as usize * RECORD_LENGTH];
     for order in orders {
-        let [side, kind, number, price, size, minimum] = numbers(order);
-        let refusal = model::add(&mut book, side, kind, number, price, size, minimum);
+        let refusal = model::add(&mut book, numbers(order));
         assert_eq!(refusal, 0, "the orders of a case can all be entered");
     }
     book
 }
 
-/// Side, kind, number, price, size and minimum, as add takes them.
-pub fn numbers(order: &Order) -> [u32; 6] {
-    let minimum = match order.kind {
-        Kind::MinimumQuantity { minimum } => minimum,
-        _ => 0,
+/// The numbers of an order, as add takes them.
+pub fn numbers(order: &Order) -> [u32; 8] {
+    let (kind, minimum, hidden, refresh) = match order.kind {
+        Kind::Displayed => (1, 0, 0, 0),
+        Kind::NonDisplayed => (2, 0, 0, 0),
+        Kind::MinimumQuantity { minimum } => (3, minimum, 0, 0),
+        Kind::Reserve { hidden, refresh } => (4, 0, hidden, refresh),
     };
-    let kind = u32::from(order.record()[3]);
+    let Order {
+        number,
+        price,
+        size,
+        ..
+    } = *order;
     let side = order.side as u32;
-    [side, kind, order.number, order.price, order.size, minimum]
+    [side, kind, number, price, size, minimum, hidden, refresh]
 }
 
 /// The bytes of a full book of orders that all have the setter mark.
@@ -186,6 +204,7 @@ pub fn marked(orders: &[Order]) -> Vec<u8> {
     book
 }
 
+/// The shares of the orders, hidden ones included.
 pub fn total(orders: &[Order]) -> u32 {
-    orders.iter().map(|order| order.size).sum()
+    orders.iter().map(Order::shares).sum()
 }

@@ -10,8 +10,8 @@ pub enum Call {
     Find {
         number: u32,
     },
-    /// Side, kind, number, price, size and minimum.
-    Add([u32; 6]),
+    /// Side, kind, number, price, size, minimum, hidden shares and refresh size.
+    Add([u32; 8]),
     Reduce {
         number: u32,
         shares: u32,
@@ -20,7 +20,7 @@ pub enum Call {
     Take([u32; 4]),
     Ladder,
     /// The forms that keep a ladder, with the numbers of their plain calls.
-    AddLadder([u32; 6]),
+    AddLadder([u32; 8]),
     ReduceLadder {
         number: u32,
         shares: u32,
@@ -50,11 +50,11 @@ pub struct Buffers<'a> {
 pub trait Calls {
     fn check(book: &[u8]) -> Numbers;
     fn find(book: &[u8], number: u32) -> Numbers;
-    fn add(book: &mut [u8], order: [u32; 6]) -> Numbers;
+    fn add(book: &mut [u8], order: [u32; 8]) -> Numbers;
     fn reduce(book: &mut [u8], number: u32, shares: u32) -> Numbers;
     fn take(book: &mut [u8], executions: &mut [u8], incoming: [u32; 4]) -> Numbers;
     fn ladder(book: &[u8], ladder: &mut [u8]) -> Numbers;
-    fn add_ladder(book: &mut [u8], ladder: &mut [u8], order: [u32; 6]) -> Numbers;
+    fn add_ladder(book: &mut [u8], ladder: &mut [u8], order: [u32; 8]) -> Numbers;
     fn reduce_ladder(book: &mut [u8], ladder: &mut [u8], number: u32, shares: u32) -> Numbers;
     fn take_ladder(buffers: Buffers, incoming: [u32; 4]) -> Numbers;
 
@@ -110,9 +110,8 @@ impl Calls for FastModel {
         [refusal as usize, start, length]
     }
 
-    fn add(book: &mut [u8], order: [u32; 6]) -> Numbers {
-        let [side, kind, number, price, size, minimum] = order;
-        only(fast::add(book, side, kind, number, price, size, minimum))
+    fn add(book: &mut [u8], order: [u32; 8]) -> Numbers {
+        only(fast::add(book, order))
     }
 
     fn reduce(book: &mut [u8], number: u32, shares: u32) -> Numbers {
@@ -128,7 +127,7 @@ impl Calls for FastModel {
         only(fast::ladder(book, ladder))
     }
 
-    fn add_ladder(book: &mut [u8], ladder: &mut [u8], order: [u32; 6]) -> Numbers {
+    fn add_ladder(book: &mut [u8], ladder: &mut [u8], order: [u32; 8]) -> Numbers {
         only(fast::add_ladder(book, ladder, order))
     }
 
@@ -157,7 +156,7 @@ impl Calls for Library {
         library::find(book, number)
     }
 
-    fn add(book: &mut [u8], order: [u32; 6]) -> Numbers {
+    fn add(book: &mut [u8], order: [u32; 8]) -> Numbers {
         library::add(book, order)
     }
 
@@ -173,7 +172,7 @@ impl Calls for Library {
         library::ladder(book, ladder)
     }
 
-    fn add_ladder(book: &mut [u8], ladder: &mut [u8], order: [u32; 6]) -> Numbers {
+    fn add_ladder(book: &mut [u8], ladder: &mut [u8], order: [u32; 8]) -> Numbers {
         library::add_ladder(book, ladder, order)
     }
 

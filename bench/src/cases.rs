@@ -4,6 +4,7 @@ use crate::books::{self, price, BEST_PRICE};
 use crate::calls::Call;
 use crate::ladders;
 use crate::leaving;
+use crate::reserves;
 use model::book::Order;
 
 #[derive(Clone)]
@@ -73,6 +74,7 @@ pub fn all() -> Vec<Case> {
     }
     cases.extend(leaving::cases());
     cases.extend(ladders::cases());
+    cases.extend(reserves::cases());
     cases
 }
 

@@ -13,6 +13,7 @@ mod machine;
 mod measure;
 mod plot;
 mod report;
+mod reserves;
 
 use cases::Case;
 use measure::Measured;

@@ -9,7 +9,7 @@ use std::time::{Duration, Instant};
 /// Fresh copies of a book, and of the ladder beside it, are made for so many bytes
 /// at a time, so that they stay in the nearest cache.
 const COPIED_BYTES: usize = 32 * 1024;
-const EXECUTIONS_BYTES: usize = 4_096;
+const EXECUTIONS_BYTES: usize = 8_192;
 /// What the execution buffer holds before a call.
 const FILLER: u8 = 0xEE;
 pub const ROUNDS: usize = 15;

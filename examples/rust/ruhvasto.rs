@@ -2,12 +2,12 @@
 //! says, never NULL, and two that are lent at once to be written never overlap: so these functions are safe.
 
 /// The version of the interface that this module is written for.
-pub const VERSION: u32 = 5;
+pub const VERSION: u32 = 6;
 
-pub const RECORD_BYTES: usize = 32;
+pub const RECORD_BYTES: usize = 40;
 pub const EXECUTION_BYTES: usize = 16;
 /// An execution buffer of this length is never too small.
-pub const EXECUTIONS_BYTES: usize = 4096;
+pub const EXECUTIONS_BYTES: usize = 8192;
 pub const ROW_BYTES: usize = 24;
 /// A ladder has this length and no other.
 pub const LADDER_BYTES: usize = 6144;
@@ -28,6 +28,8 @@ pub enum Kind {
     NonDisplayed,
     /// With its minimum.
     MinimumQuantity(u32),
+    /// With its hidden shares. The size of the order is that of its shown part, and its refresh size too.
+    Reserve(u32),
 }
 
 #[derive(Clone, Copy)]
@@ -72,6 +74,8 @@ mod c {
         pub price: u32,
         pub size: u32,
         pub minimum: u32,
+        pub hidden: u32,
+        pub refresh: u32,
     }
 
     #[repr(C)]
@@ -151,10 +155,11 @@ mod c {
 
 impl AddRequest {
     fn for_c(self) -> c::AddRequest {
-        let (kind, minimum) = match self.kind {
-            Kind::Displayed => (1, 0),
-            Kind::NonDisplayed => (2, 0),
-            Kind::MinimumQuantity(minimum) => (3, minimum),
+        let (kind, minimum, hidden, refresh) = match self.kind {
+            Kind::Displayed => (1, 0, 0, 0),
+            Kind::NonDisplayed => (2, 0, 0, 0),
+            Kind::MinimumQuantity(minimum) => (3, minimum, 0, 0),
+            Kind::Reserve(hidden) => (4, 0, hidden, self.size),
         };
         c::AddRequest {
             side: self.side as u32,
@@ -163,6 +168,8 @@ impl AddRequest {
             price: self.price,
             size: self.size,
             minimum,
+            hidden,
+            refresh,
         }
     }
 }
@@ -310,10 +317,12 @@ pub struct Order {
     pub size: u32,
     pub minimum: u32,
     pub setter: bool,
+    pub hidden: u32,
+    pub refresh: u32,
 }
 
 impl Order {
-    /// Of the 32 bytes of a record.
+    /// Of the 40 bytes of a record.
     pub fn of(record: &[u8]) -> Order {
         Order {
             side: record[2],
@@ -323,6 +332,8 @@ impl Order {
             size: number_at(record, 12),
             minimum: number_at(record, 16),
             setter: record[20] == 1,
+            hidden: number_at(record, 32),
+            refresh: number_at(record, 36),
         }
     }
 }

@@ -2,131 +2,23 @@
 
 use crate::Refusal;
 
-pub const RECORD_LENGTH: usize = 32;
+pub use crate::order::{
+    price_in_range, size_in_range, Kind, Order, Side, HIGHEST_PRICE, LARGEST_SIZE, ROUND_LOT,
+};
+
+pub const RECORD_LENGTH: usize = 40;
 pub const LONGEST_BOOK: usize = 256 * RECORD_LENGTH;
-pub const HIGHEST_PRICE: u32 = 2_000_000_000;
-pub const LARGEST_SIZE: u32 = 999_999;
-/// Shares in a round lot.
-pub const ROUND_LOT: u32 = 100;
 
-const RECORD_MARK: [u8; 2] = [0x4F, 0x42];
-
-#[derive(Clone, Copy, Debug, PartialEq, Eq)]
-pub enum Side {
-    Buy = 1,
-    Sell = 2,
-}
-
-impl Side {
-    pub fn of_number(number: u32) -> Option<Side> {
-        match number {
-            1 => Some(Side::Buy),
-            2 => Some(Side::Sell),
-            _ => None,
-        }
-    }
-
-    /// Whether an order of this side with this limit may trade at the price.
-    pub fn within(self, limit: u32, price: u32) -> bool {
-        match self {
-            Side::Buy => price <= limit,
-            Side::Sell => price >= limit,
-        }
-    }
-
-    /// Whether an order of this side at `price` is better than one at `other`.
-    pub fn is_better(self, price: u32, other: u32) -> bool {
-        match self {
-            Side::Buy => price > other,
-            Side::Sell => price < other,
-        }
-    }
-}
-
-#[derive(Clone, Copy, Debug, PartialEq, Eq)]
-pub enum Kind {
-    Displayed,
-    NonDisplayed,
-    /// Non-displayed, and trades at least `minimum` shares at a time.
-    MinimumQuantity {
-        minimum: u32,
-    },
-}
-
-#[derive(Clone, Copy, Debug, PartialEq, Eq)]
-pub struct Order {
-    pub side: Side,
-    pub kind: Kind,
-    /// A lower number is earlier in time.
-    pub number: u32,
-    /// In ten-thousandths of a dollar.
-    pub price: u32,
-    /// In shares.
-    pub size: u32,
-    /// Whether the order set its price when it was entered.
-    pub setter: bool,
-}
+const RECORD_MARK: [u8; 2] = [0x4F, 0x43];
 
 impl Order {
-    /// The order with these numbers, without a setter mark, if each of them is
-    /// within its range.
-    pub fn of_numbers(
-        side: u32,
-        kind: u32,
-        number: u32,
-        price: u32,
-        size: u32,
-        minimum: u32,
-    ) -> Option<Order> {
-        let side = Side::of_number(side)?;
-        let kind = match kind {
-            1 if minimum == 0 => Kind::Displayed,
-            2 if minimum == 0 => Kind::NonDisplayed,
-            3 if (1..=size).contains(&minimum) => Kind::MinimumQuantity { minimum },
-            _ => return None,
-        };
-        let in_range = number >= 1 && price_in_range(price) && size_in_range(size);
-        in_range.then_some(Order {
-            side,
-            kind,
-            number,
-            price,
-            size,
-            setter: false,
-        })
-    }
-
-    pub fn is_displayed(&self) -> bool {
-        self.kind == Kind::Displayed
-    }
-
-    /// The fewest shares that the order trades.
-    pub fn least_fill(&self) -> u32 {
-        match self.kind {
-            Kind::MinimumQuantity { minimum } => minimum,
-            _ => 1,
-        }
-    }
-
-    /// What rests after the order has lost shares: nothing when it has lost all,
-    /// and a minimum above the new size becomes the new size.
-    pub fn less(self, shares: u32) -> Option<Order> {
-        let size = self.size - shares;
-        let kind = match self.kind {
-            Kind::MinimumQuantity { minimum } => Kind::MinimumQuantity {
-                minimum: minimum.min(size),
-            },
-            other => other,
-        };
-        (size > 0).then_some(Order { kind, size, ..self })
-    }
-
-    /// The order's 32 bytes.
+    /// The order's 40 bytes.
     pub fn record(&self) -> [u8; RECORD_LENGTH] {
-        let (kind, minimum) = match self.kind {
-            Kind::Displayed => (1, 0),
-            Kind::NonDisplayed => (2, 0),
-            Kind::MinimumQuantity { minimum } => (3, minimum),
+        let (kind, minimum, hidden, refresh) = match self.kind {
+            Kind::Displayed => (1, 0, 0, 0),
+            Kind::NonDisplayed => (2, 0, 0, 0),
+            Kind::MinimumQuantity { minimum } => (3, minimum, 0, 0),
+            Kind::Reserve { hidden, refresh } => (4, 0, hidden, refresh),
         };
         let mut record = [0; RECORD_LENGTH];
         record[0..2].copy_from_slice(&RECORD_MARK);
@@ -137,6 +29,8 @@ impl Order {
         record[12..16].copy_from_slice(&self.size.to_le_bytes());
         record[16..20].copy_from_slice(&minimum.to_le_bytes());
         record[20] = self.setter as u8;
+        record[32..36].copy_from_slice(&hidden.to_le_bytes());
+        record[36..40].copy_from_slice(&refresh.to_le_bytes());
         record
     }
 
@@ -144,14 +38,16 @@ impl Order {
         if record[0..2] != RECORD_MARK || !all_zero(&record[21..32]) {
             return None;
         }
-        let order = Order::of_numbers(
+        let order = Order::of_numbers([
             u32::from(record[2]),
             u32::from(record[3]),
             number_at(record, 4),
             number_at(record, 8),
             number_at(record, 12),
             number_at(record, 16),
-        )?;
+            number_at(record, 32),
+            number_at(record, 36),
+        ])?;
         match record[20] {
             0 => Some(order),
             1 if order.is_displayed() => Some(Order {
@@ -167,14 +63,6 @@ impl Order {
 pub fn number_at(bytes: &[u8], place: usize) -> u32 {
     let four = bytes[place..place + 4].try_into().expect("four bytes");
     u32::from_le_bytes(four)
-}
-
-pub fn price_in_range(price: u32) -> bool {
-    (1..=HIGHEST_PRICE).contains(&price)
-}
-
-pub fn size_in_range(size: u32) -> bool {
-    (1..=LARGEST_SIZE).contains(&size)
 }
 
 /// The orders of a sound book, in the order of their records.

@@ -20,17 +20,10 @@ pub fn find(book: &[u8], number: u32) -> (u32, usize, usize) {
     }
 }
 
-/// Puts an order last. Gives the refusal number.
-pub fn add(
-    book: &mut [u8],
-    side: u32,
-    kind: u32,
-    number: u32,
-    price: u32,
-    size: u32,
-    minimum: u32,
-) -> u32 {
-    let outcome = Order::of_numbers(side, kind, number, price, size, minimum)
+/// Puts an order last. Takes side, kind, number, price, size, minimum, hidden
+/// shares and refresh size. Gives the refusal number.
+pub fn add(book: &mut [u8], order: [u32; 8]) -> u32 {
+    let outcome = Order::of_request(order)
         .ok_or(Refusal::OutOfRange)
         .and_then(|order| with_order(book, order));
     settle(book, outcome)
@@ -83,11 +76,11 @@ fn with_order(book: &[u8], order: Order) -> Result<Vec<Order>, Refusal> {
 fn could_trade(new: &Order, resting: &Order) -> bool {
     resting.side != new.side
         && new.side.within(new.price, resting.price)
-        && resting.least_fill() <= new.size
+        && resting.least_fill() <= new.shares()
 }
 
-/// Whether a new order is displayed, of a round lot or more, and better priced
-/// than every displayed order on its side.
+/// Whether a new order is displayed, with a round lot or more shown, and better
+/// priced than every displayed order on its side.
 fn sets_price(new: &Order, orders: &[Order]) -> bool {
     let mut rivals = orders
         .iter()
@@ -102,10 +95,10 @@ fn with_fewer_shares(book: &[u8], number: u32, shares: u32) -> Result<Vec<Order>
         return Err(Refusal::OutOfRange);
     }
     let (mut orders, place) = record_of(book, number)?;
-    if shares > orders[place].size {
+    if shares > orders[place].shares() {
         return Err(Refusal::MoreThanOrderHas);
     }
-    match orders[place].less(shares) {
+    match orders[place].reduced(shares) {
         Some(smaller) => orders[place] = smaller,
         None => drop(orders.remove(place)),
     }

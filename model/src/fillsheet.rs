@@ -70,15 +70,18 @@ impl Desk {
             [b"T", taker, limit, size] => {
                 Some(self.take(side(taker)?, number(limit)?, number(size)?))
             }
-            [maker, order, hidden, price, size, minimum] => Some(calls::add(
-                &mut self.book,
-                side(maker)?,
-                kind(hidden)?,
-                number(order)?,
-                number(price)?,
-                number(size)?,
-                number(minimum)?,
-            )),
+            [maker, order, letter, price, size, minimum] => {
+                let side = side(maker)?;
+                let kind = kind(letter)?;
+                let [order, price, size, minimum] = [
+                    number(order)?,
+                    number(price)?,
+                    number(size)?,
+                    number(minimum)?,
+                ];
+                let order = [side, kind, order, price, size, minimum, 0, 0];
+                Some(calls::add(&mut self.book, order))
+            }
             _ => None,
         }
     }

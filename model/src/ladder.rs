@@ -14,9 +14,10 @@ const ROW_MARK: [u8; 2] = [0x4C, 0x44];
 pub struct Row {
     pub side: Side,
     pub price: u32,
-    /// Shares of displayed orders.
+    /// Shares of displayed orders, and those that reserve orders show.
     pub displayed: u32,
-    /// Shares of non-displayed and minimum quantity orders.
+    /// Shares of non-displayed and minimum quantity orders, and those that reserve
+    /// orders hide.
     pub other: u32,
     pub orders: u16,
 }
@@ -33,12 +34,9 @@ pub fn ladder(book: &[u8], ladder: &mut [u8]) -> u32 {
     }
 }
 
-/// Add that keeps the ladder. Takes side, kind, number, price, size and minimum.
-pub fn add_ladder(book: &mut [u8], ladder: &mut [u8], order: [u32; 6]) -> u32 {
-    let [side, kind, number, price, size, minimum] = order;
-    keeping(book, ladder, |book| {
-        calls::add(book, side, kind, number, price, size, minimum)
-    })
+/// Add that keeps the ladder. Takes the numbers that add takes.
+pub fn add_ladder(book: &mut [u8], ladder: &mut [u8], order: [u32; 8]) -> u32 {
+    keeping(book, ladder, |book| calls::add(book, order))
 }
 
 /// Reduce that keeps the ladder.
@@ -118,8 +116,9 @@ impl Row {
     /// The row of orders that have the same side and price.
     fn of(orders: &[Order]) -> Row {
         let shares = |displayed: bool| {
-            let of_kind = orders.iter().filter(|o| o.is_displayed() == displayed);
-            of_kind.map(|order| order.size).sum()
+            let parts = orders.iter().flat_map(Order::parts);
+            let of_kind = parts.filter(|part| part.is_displayed() == displayed);
+            of_kind.map(|part| part.size).sum()
         };
         Row {
             side: orders[0].side,

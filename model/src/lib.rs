@@ -12,6 +12,7 @@ mod calls;
 pub mod fast;
 mod fillsheet;
 pub mod ladder;
+mod order;
 mod sharing;
 mod take;
 

@@ -1,5 +1,6 @@
 //! How a group of orders shares what reaches it. A group's orders stand in
-//! rising order number; an allotment has the shares of each, in the same order.
+//! rising order number; an allotment has the shares of each, in the same order. A
+//! part of a reserve order stands there as an order of its own.
 
 use crate::book::{Order, ROUND_LOT};
 use std::cmp::Reverse;

@@ -22,7 +22,7 @@ struct Incoming {
     algorithm: Algorithm,
 }
 
-/// What one resting order traded, at its own price.
+/// What one part of a resting order traded, at the order's price.
 #[derive(Clone, Copy, Debug, PartialEq, Eq)]
 pub struct Execution {
     /// The paragraph of the rule whose group gave the shares.
@@ -79,7 +79,7 @@ fn decide(
     if fills.len() * EXECUTION_LENGTH > room {
         return Err(Refusal::ExecutionsDoNotFit);
     }
-    Ok((resting(&orders, &fills), fills))
+    Ok((resting(&orders, &fills, incoming.algorithm), fills))
 }
 
 impl Incoming {
@@ -106,10 +106,11 @@ impl Incoming {
 }
 
 impl Algorithm {
-    /// The paragraph of the rule in which an order has its turn.
-    fn paragraph(self, order: &Order) -> u8 {
-        let round_lot = order.size >= ROUND_LOT;
-        match (self, order.kind) {
+    /// The paragraph of the rule in which a part of an order has its turn.
+    fn paragraph(self, part: &Order) -> u8 {
+        let round_lot = part.size >= ROUND_LOT;
+        match (self, part.kind) {
+            (_, Kind::Reserve { .. }) => unreachable!("a reserve order's parts are of other kinds"),
             (Algorithm::PriceTime, Kind::Displayed) => 2,
             (Algorithm::PriceTime, _) => 3,
             (_, Kind::Displayed) if round_lot => 2,
@@ -134,23 +135,25 @@ impl Algorithm {
 
 /// What executes, by price, then paragraph, then rising order number.
 fn fills(orders: &[Order], incoming: &Incoming) -> Vec<Execution> {
+    let opposite = orders.iter().filter(|order| incoming.may_trade_with(order));
+    let parts: Vec<Order> = opposite.flat_map(Order::parts).collect();
     let mut fills = Vec::new();
     let mut left = incoming.size;
-    for price in price_levels(orders, incoming) {
+    for price in price_levels(&parts, incoming.side) {
         for paragraph in 2..=6 {
-            let group: Vec<Order> = orders
+            let group: Vec<Order> = parts
                 .iter()
-                .filter(|order| incoming.may_trade_with(order) && order.price == price)
-                .filter(|order| incoming.algorithm.paragraph(order) == paragraph)
+                .filter(|part| part.price == price)
+                .filter(|part| incoming.algorithm.paragraph(part) == paragraph)
                 .copied()
                 .collect();
             let allotment = incoming.algorithm.allot(paragraph, &group, left);
-            for (order, shares) in group.iter().zip(allotment) {
+            for (part, shares) in group.iter().zip(allotment) {
                 left -= shares;
                 if shares > 0 {
                     fills.push(Execution {
                         paragraph,
-                        number: order.number,
+                        number: part.number,
                         price,
                         shares,
                     });
@@ -161,30 +164,32 @@ fn fills(orders: &[Order], incoming: &Incoming) -> Vec<Execution> {
     fills
 }
 
-/// The prices that an incoming order may trade at, the best for it first.
-fn price_levels(orders: &[Order], incoming: &Incoming) -> Vec<u32> {
-    let mut prices: Vec<u32> = orders
-        .iter()
-        .filter(|order| incoming.may_trade_with(order))
-        .map(|order| order.price)
-        .collect();
+/// The prices of these parts, the best first for an incoming order of a side.
+fn price_levels(parts: &[Order], side: Side) -> Vec<u32> {
+    let mut prices: Vec<u32> = parts.iter().map(|part| part.price).collect();
     prices.sort_unstable();
     prices.dedup();
-    if incoming.side == Side::Sell {
+    if side == Side::Sell {
         prices.reverse();
     }
     prices
 }
 
-/// The orders that rest after the executions.
-fn resting(orders: &[Order], fills: &[Execution]) -> Vec<Order> {
-    let executed = |order: &Order| {
-        let fill = fills.iter().find(|fill| fill.number == order.number);
+/// The orders that rest after the executions. What a part lost is the execution
+/// with its order's number and its own paragraph.
+fn resting(orders: &[Order], fills: &[Execution], algorithm: Algorithm) -> Vec<Order> {
+    let lost = |part: &Order| {
+        let paragraph = algorithm.paragraph(part);
+        let mut of_order = fills.iter().filter(|fill| fill.number == part.number);
+        let fill = of_order.find(|fill| fill.paragraph == paragraph);
         fill.map_or(0, |fill| fill.shares)
     };
     orders
         .iter()
-        .filter_map(|order| order.less(executed(order)))
+        .filter_map(|order| {
+            let parts = order.parts();
+            order.executed(lost(&parts[0]), parts.get(1).map_or(0, lost))
+        })
         .collect()
 }
 

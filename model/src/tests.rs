@@ -1,6 +1,6 @@
 //! The scope's cases, its refusals in their order, the readings of the rule that
-//! it rules out, what each paragraph of the rule says, what executions name, and
-//! the ladder beside the book.
+//! it rules out, what each paragraph of the rule says, what executions name, the
+//! ladder beside the book, and reserve orders.
 
 mod books;
 mod cases;
@@ -14,6 +14,8 @@ mod lines;
 mod paragraphs;
 mod readings;
 mod refusals;
+mod reserve_books;
+mod reserves;
 mod setters;
 
 use crate::book::{self, Kind, Order, RECORD_LENGTH};
@@ -33,12 +35,11 @@ impl Market {
     fn new(records: usize) -> Market {
         Market {
             book: vec![0; records * RECORD_LENGTH],
-            executions: vec![0xEE; 4_096],
+            executions: vec![0xEE; 8_192],
         }
     }
 
-    /// Orders of a side at the usual price, numbered from 1, written as "D 600"
-    /// and "M 500/400" with commas between.
+    /// Orders of a side at the usual price, numbered from 1, with commas between.
     fn of_side(side: u32, orders: &str) -> Market {
         let mut market = Market::new(8);
         for (place, order) in orders.split(", ").enumerate() {
@@ -52,8 +53,7 @@ impl Market {
     }
 
     fn add(&mut self, side: u32, number: u32, price: u32, order: &str) -> u32 {
-        let (kind, size, minimum) = described(order);
-        crate::add(&mut self.book, side, kind, number, price, size, minimum)
+        crate::add(&mut self.book, described(side, number, price, order))
     }
 
     fn accept(&mut self, side: u32, number: u32, price: u32, order: &str) {
@@ -116,15 +116,18 @@ impl Market {
     }
 }
 
-/// Kind, size and minimum of an order written as in the scope's cases.
-fn described(order: &str) -> (u32, u32, u32) {
+/// What add takes for an order written as "D 600", "H 50", "M 500/400" with its
+/// minimum, or "R 100+250/100" with shown shares, hidden shares and refresh size.
+fn described(side: u32, number: u32, price: u32, order: &str) -> [u32; 8] {
     let (letter, numbers) = order.split_once(' ').expect("a letter and a size");
-    let (size, minimum) = numbers.split_once('/').unwrap_or((numbers, "0"));
-    let kind = match letter {
-        "D" => 1,
-        "H" => 2,
-        _ => 3,
+    let (shares, last) = numbers.split_once('/').unwrap_or((numbers, "0"));
+    let (size, hidden) = shares.split_once('+').unwrap_or((shares, "0"));
+    let [size, hidden, last] = [size, hidden, last].map(|text| text.parse().expect("a number"));
+    let (kind, minimum, refresh) = match letter {
+        "D" => (1, 0, 0),
+        "H" => (2, 0, 0),
+        "M" => (3, last, 0),
+        _ => (4, 0, last),
     };
-    let number = |text: &str| text.parse().expect("a number");
-    (kind, number(size), number(minimum))
+    [side, kind, number, price, size, minimum, hidden, refresh]
 }

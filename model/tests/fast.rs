@@ -1,7 +1,7 @@
 //! The fast calls against the plain ones on random books: the same numbers, and
 //! the same bytes in every buffer.
 
-use model::book::{self, Order, HIGHEST_PRICE, LARGEST_SIZE, LONGEST_BOOK, RECORD_LENGTH};
+use model::book::{self, Kind, Order, HIGHEST_PRICE, LARGEST_SIZE, LONGEST_BOOK, RECORD_LENGTH};
 use model::ladder::ROW_LENGTH;
 use model::{fast, LADDER_LENGTH};
 use support::Random;
@@ -14,8 +14,9 @@ struct Shape {
     /// How many prices there are, from the lowest on.
     levels: u32,
     lowest: u32,
-    /// How often displayed, non-displayed and minimum quantity orders come.
-    kinds: [usize; 3],
+    /// How often displayed, non-displayed, minimum quantity and reserve orders
+    /// come.
+    kinds: [usize; 4],
     largest: u32,
 }
 
@@ -25,7 +26,15 @@ impl Shape {
         Shape {
             levels,
             lowest: random.one_of(&[1, 100_000, HIGHEST_PRICE - levels]),
-            kinds: random.one_of(&[[1, 1, 1], [6, 1, 1], [1, 1, 6], [1, 0, 0]]),
+            kinds: random.one_of(&[
+                [1, 1, 1, 0],
+                [1, 1, 1, 1],
+                [6, 1, 1, 1],
+                [1, 1, 6, 1],
+                [1, 0, 0, 0],
+                [1, 1, 1, 6],
+                [0, 0, 0, 1],
+            ]),
             largest: random.one_of(&[130, 400, 1_000, 1_000, LARGEST_SIZE]),
         }
     }
@@ -40,27 +49,33 @@ impl Shape {
         random.one_of(&[size, size, lots.max(1), (lots + 50).min(LARGEST_SIZE)])
     }
 
-    /// Side, kind, number, price, size and minimum.
-    fn order(&self, random: &mut Random, number: u32) -> [u32; 6] {
+    /// The numbers that add takes.
+    fn order(&self, random: &mut Random, number: u32) -> [u32; 8] {
         let side = random.within(1..=2);
         let kind = random.weighted(&self.kinds) as u32 + 1;
+        let price = self.price(random);
         let size = self.size(random);
-        let minimum = match kind {
-            3 => random.within(1..=size),
-            _ => 0,
+        let (minimum, hidden, refresh) = match kind {
+            3 => (random.within(1..=size), 0, 0),
+            4 => (0, self.size(random) * random.within(0..=1), size),
+            _ => (0, 0, 0),
         };
-        [side, kind, number, self.price(random), size, minimum]
+        [side, kind, number, price, size, minimum, hidden, refresh]
     }
 
-    /// A sound book, the marks of which may be where add sets none.
+    /// A sound book, the marks of which may be where add sets none, and the refresh
+    /// sizes of which may be other than what is shown.
     fn book(&self, random: &mut Random, records: usize, free: usize) -> Vec<u8> {
         let marks = random.one_of(&[0, 1, 3]);
         let mut orders: Vec<Order> = Vec::new();
         let mut number = random.one_of(&[1, 1_000, u32::MAX - 3 * MOST_ORDERS as u32]);
         for _ in 0..records.saturating_sub(free) {
-            let [side, kind, _, price, size, minimum] = self.order(random, number);
-            let order = Order::of_numbers(side, kind, number, price, size, minimum);
+            let order = Order::of_numbers(self.order(random, number));
             let mut order = order.expect("numbers within their ranges");
+            if let Kind::Reserve { refresh, .. } = &mut order.kind {
+                let another = self.size(random);
+                *refresh = random.one_of(&[order.size, another]);
+            }
             let rival = |other: &Order| {
                 other.setter && (other.side, other.price) == (order.side, order.price)
             };
@@ -78,8 +93,8 @@ impl Shape {
 /// Spoils a book, most times.
 fn damage(random: &mut Random, book: &mut Vec<u8>) {
     match random.below(8) {
-        0 => book.resize(book.len() + random.one_of(&[1, 31, 32, 33]), 0),
-        1 => book.resize(LONGEST_BOOK + random.one_of(&[1, 32, 4_096]), 0),
+        0 => book.resize(book.len() + random.one_of(&[1, 8, 32, 39, 40, 41]), 0),
+        1 => book.resize(LONGEST_BOOK + random.one_of(&[1, 32, 40, 4_096]), 0),
         2 if book.len() >= 2 * RECORD_LENGTH => {
             let records = book.len() / RECORD_LENGTH;
             let (from, to) = (random.below(records), random.below(records));
@@ -88,12 +103,12 @@ fn damage(random: &mut Random, book: &mut Vec<u8>) {
         }
         3 => {
             let records = book.chunks_exact_mut(RECORD_LENGTH);
-            records.for_each(|record| record[20] = u8::from(record[3] == 1));
+            records.for_each(|record| record[20] = u8::from([1, 4].contains(&record[3])));
         }
         _ if book.is_empty() => book.push(0),
         _ => {
             let place = random.below(book.len());
-            book[place] = random.one_of(&[0, 1, 2, 3, 4, 0x42, 0x4F, 127, 128, 255]);
+            book[place] = random.one_of(&[0, 1, 2, 3, 4, 5, 0x42, 0x43, 0x4F, 127, 128, 255]);
         }
     }
 }
@@ -118,24 +133,23 @@ fn mostly(random: &mut Random, number: u32) -> u32 {
 /// What a random call on a book goes by.
 struct Known {
     orders: Vec<Order>,
-    /// The number and size of one of them.
-    one: (u32, u32),
+    /// One of them, if there is any.
+    one: Option<Order>,
 }
 
 impl Known {
     fn of(random: &mut Random, book: &[u8]) -> Known {
         let orders = book::read(book).unwrap_or_default();
-        let one = orders.get(random.below(orders.len().max(1)));
-        let one = one.map_or((1, 1), |order| (order.number, order.size));
+        let one = orders.get(random.below(orders.len().max(1))).copied();
         Known { orders, one }
     }
 
     fn find(&self, random: &mut Random) -> u32 {
-        mostly(random, self.one.0)
+        mostly(random, self.one.map_or(1, |order| order.number))
     }
 
-    /// Side, kind, number, price, size and minimum.
-    fn add(&self, random: &mut Random, shape: &Shape) -> [u32; 6] {
+    /// The numbers that add takes.
+    fn add(&self, random: &mut Random, shape: &Shape) -> [u32; 8] {
         let last = self.orders.last().map_or(0, |order| order.number);
         let order = shape.order(random, last.saturating_add(1));
         order.map(|number| mostly(random, number))
@@ -143,14 +157,18 @@ impl Known {
 
     /// Number and shares.
     fn reduce(&self, random: &mut Random) -> [u32; 2] {
-        let (number, size) = self.one;
-        let shares = random.one_of(&[1, size, size / 2 + 1, size + 1]);
+        let (number, size, hidden) = self.one.map_or((1, 1, 0), |order| {
+            (order.number, order.size, order.hidden())
+        });
+        let all = size + hidden;
+        let shares = [1, size, size / 2 + 1, hidden, hidden + 1, all, all + 1];
+        let shares = random.one_of(&shares).clamp(1, LARGEST_SIZE);
         [number, shares].map(|number| mostly(random, number))
     }
 
     /// Side, limit, size and algorithm.
     fn take(&self, random: &mut Random, shape: &Shape) -> [u32; 4] {
-        let total: u32 = self.orders.iter().map(|order| order.size).sum();
+        let total: u32 = self.orders.iter().map(Order::shares).sum();
         let part = random.within(1..=total.clamp(1, LARGEST_SIZE));
         let size = random.one_of(&[part, part / 2 + 1, part / 8 + 1, shape.largest, 99]);
         let (side, limit) = (random.within(1..=2), shape.price(random));
@@ -161,7 +179,7 @@ impl Known {
 
 /// An execution buffer that is often too small.
 fn execution_buffer(random: &mut Random) -> Vec<u8> {
-    vec![0xEE; random.one_of(&[0, 1, 16, 40, 100, 1_000, 4_096, 5_000])]
+    vec![0xEE; random.one_of(&[0, 1, 16, 40, 100, 1_000, 4_096, 8_191, 8_192, 9_000])]
 }
 
 /// One call by both, on copies of the same bytes. Leaves the book as they do.
@@ -175,10 +193,8 @@ fn agree(random: &mut Random, shape: &Shape, book: &mut Vec<u8>) {
             assert_eq!(model::find(book, number), fast::find(book, number));
         }
         2 => {
-            let [side, kind, number, price, size, minimum] = known.add(random, shape);
-            let plain = model::add(book, side, kind, number, price, size, minimum);
-            let fast = fast::add(&mut fast_book, side, kind, number, price, size, minimum);
-            assert_eq!(plain, fast);
+            let order = known.add(random, shape);
+            assert_eq!(model::add(book, order), fast::add(&mut fast_book, order));
         }
         3 => {
             let [number, shares] = known.reduce(random);
@@ -210,7 +226,7 @@ struct Lent {
 #[derive(Clone, Copy, Debug)]
 enum Form {
     New,
-    Add([u32; 6]),
+    Add([u32; 8]),
     Reduce([u32; 2]),
     Take([u32; 4]),
 }
@@ -350,8 +366,10 @@ fn full_ladder(levels: u32, sides: [u32; 2]) -> Lent {
         .map(|place| {
             let side = sides[place as usize % 2];
             let price = 100_000 + place * 161 % levels;
-            let (kind, minimum) = [(1, 0), (2, 0), (3, 40)][place as usize % 3];
-            Order::of_numbers(side, kind, place + 1, price, 100 + place, minimum)
+            let kinds = [[1, 0, 0, 0], [2, 0, 0, 0], [3, 40, 0, 0], [4, 0, 70, 50]];
+            let [kind, minimum, hidden, refresh] = kinds[place as usize % 4];
+            let (number, size) = (place + 1, 100 + place);
+            Order::of_numbers([side, kind, number, price, size, minimum, hidden, refresh])
                 .expect("numbers within their ranges")
         })
         .collect();
@@ -359,7 +377,7 @@ fn full_ladder(levels: u32, sides: [u32; 2]) -> Lent {
     book::write(&mut book, &orders);
     Lent {
         ladder: new_ladder(&book),
-        executions: vec![0xEE; 4_096],
+        executions: vec![0xEE; 8_192],
         book,
     }
 }
@@ -376,7 +394,8 @@ fn fast_and_plain_keep_full_ladders() {
                 let reduce = Form::Reduce([number, size]);
                 assert_eq!(agree_with_ladder(reduce, &mut lent), 0);
                 let price = 100_000 + place * 161 % levels;
-                let add = Form::Add([sides[place as usize % 2], 2, 300, price, 50, 0]);
+                let side = sides[place as usize % 2];
+                let add = Form::Add([side, 2, 300, price, 50, 0, 0, 0]);
                 agree_with_ladder(add, &mut lent);
                 let taker = 3 - sides[place as usize % 2];
                 let limit = [100_300, 1][taker as usize - 1];
@@ -401,7 +420,7 @@ fn fast_and_plain_agree_on_damaged_books() {
 /// One take by both, on copies of the same book.
 fn agree_on_size(book: &[u8], side: u32, limit: u32, size: u32, algorithm: u32) {
     let mut copies = [book.to_vec(), book.to_vec()];
-    let mut executions = [vec![0xEE; 4_096], vec![0xEE; 4_096]];
+    let mut executions = [vec![0xEE; 8_192], vec![0xEE; 8_192]];
     let [plain, fast] = &mut copies;
     let [first, second] = &mut executions;
     let plain = model::take(plain, first, side, limit, size, algorithm);
@@ -419,7 +438,7 @@ fn fast_and_plain_agree_on_every_size_of_an_incoming_order() {
         let shape = Shape {
             levels: 1,
             lowest: 100_000,
-            kinds: [1, 1, 0],
+            kinds: [1, 1, 0, 1],
             largest,
         };
         let book = shape.book(&mut random, 24, 0);
@@ -432,7 +451,8 @@ fn fast_and_plain_agree_on_every_size_of_an_incoming_order() {
 }
 
 /// Kind, size and minimum of the orders of small books, each of which tells one
-/// sentence on sharing from another reading of it.
+/// sentence on sharing from another reading of it. A reserve order has what it
+/// hides in the minimum's place.
 const TELLING_BOOKS: &[&[[u32; 3]]] = &[
     // Lot sharing: whole lots first, then the rest by entry size, a lot at most.
     &[[1, 100, 0], [1, 300, 0], [1, 200, 0]],
@@ -479,18 +499,30 @@ const TELLING_BOOKS: &[&[[u32; 3]]] = &[
     &[[1, 300, 0], [1, 250, 0], [1, 250, 0], [1, 200, 0]],
     &[[1, 300, 0], [1, 900, 0]],
     &[[1, 50, 0], [1, 200, 0], [1, 800, 0]],
+    // Reserve orders: two parts, each in its own paragraph, and a refresh.
+    &[[4, 100, 250], [1, 300, 0]],
+    &[[4, 100, 60], [2, 200, 0]],
+    &[[4, 50, 150], [1, 200, 0]],
+    &[[2, 50, 0], [4, 100, 250], [2, 70, 0]],
+    &[[4, 100, 500], [1, 900, 0]],
+    &[[4, 300, 100], [4, 100, 300]],
+    &[[4, 40, 99], [4, 60, 100], [3, 100, 70]],
 ];
 
 #[test]
 fn fast_and_plain_agree_on_telling_books() {
     for &orders in TELLING_BOOKS {
-        let total: u32 = orders.iter().map(|order| order[1]).sum();
+        let total: u32 = orders.iter().map(|order| order[1] + order[2]).sum();
         for (resting, incoming) in [(1, 2), (2, 1)] {
             let mut book = vec![0; orders.len() * RECORD_LENGTH];
-            for (place, &[kind, size, minimum]) in orders.iter().enumerate() {
-                let number = place as u32 + 1;
-                let refusal = model::add(&mut book, resting, kind, number, 100_000, size, minimum);
-                assert_eq!(refusal, 0);
+            for (place, &[kind, size, third]) in orders.iter().enumerate() {
+                let (minimum, hidden, refresh) = match kind {
+                    4 => (0, third, size),
+                    _ => (third, 0, 0),
+                };
+                let [number, price] = [place as u32 + 1, 100_000];
+                let order = [resting, kind, number, price, size, minimum, hidden, refresh];
+                assert_eq!(model::add(&mut book, order), 0);
             }
             for size in 1..=total + 1 {
                 for algorithm in 1..=3 {

@@ -1,11 +1,12 @@
 -- The keys that an incoming order needs, in their order, stand for parts of the book's orders and ascend.
 use Prim.Native.Nat.{ℕ, suc, _+_, _≤_, _<_, min, max}
-use mathlib.Core.Path.{_≡_, refl, ap}
+use mathlib.Core.Path.{_≡_, refl, sym, ap, _∙_}
 use mathlib.Core.Bool.{Bool, true, false}
 use mathlib.Core.List.{List, [], _∷_}
 use native.Mathlib.Omega.{arith}
 use native.Mathlib.Decide.{decLe}
-use lib.Dec.{leb}
+use lib.Dec.{leb, ltb}
+use borrow.Author.Tests.{ltb-true}
 use lib.ListN.{length}
 use Rattle.units.specs.Lists.{filter, consIf}
 use Rattle.units.proofs.Members.{Every, every-weaken}
@@ -13,17 +14,18 @@ use Rattle.units.proofs.Tests.{and-true}
 use Rattle.ordering.specs.Sorted.{insertKey, sorted}
 use Rattle.ordering.proofs.Order.{sorted-every}
 use Rattle.orders.specs.declared.order.Order.{Order}
-use Rattle.orders.specs.Order.{minimumOf, priceOf}
+use Rattle.orders.specs.Order.{Visibility, shown, hidden, sharesOf, interestOf, minimumOf, priceOf}
 use Rattle.orders.specs.Trading.{isOppositeOf, withinLimit, isTradable}
 use Rattle.record.proofs.Orders.{OrderSound, order-facts}
 use Rattle.matching.specs.declared.Algorithm.{Algorithm}
 use Rattle.matching.specs.declared.incoming.Incoming.{Incoming}
 use Rattle.parts.specs.Key.{placeIn}
-use Rattle.parts.specs.Parts.{partKey, mayMeet, keysFrom}
+use Rattle.parts.specs.Parts.{partKey, mayMeet, offers, keysOf, keysFrom}
+use Rattle.parts.specs.Visible.{visibilityIn}
 use Rattle.parts.specs.Narrowed.{ofRank, Narrowed}
 use Rattle.parts.specs.Arranged.{Arranged}
 use Rattle.allocation.specs.Ready.{Ascending, Stands, Ready}
-use Rattle.allocation.proofs.Cells.{Beside, part-place}
+use Rattle.allocation.proofs.Cells.{Beside, part-place, part-visible}
 
 -- what passes a test is among the others
 pub every-filter : {A : Type 0} (P : A → Type 0) (q : A → Bool) (xs : List A) → Every P xs → Every P (filter q xs)
@@ -90,42 +92,79 @@ module _ (lot : ℕ) (alg : Algorithm) (i : Incoming) (at : ℕ → Order) where
   -- the parts of a book's orders, in the order of the records: each stands for one, from a place on
   from-stands : (p n : ℕ) (os : List Order) → Beside at p os → Every OrderSound os → p + length os ≡ n → n ≤ 512
       → Every (λ k. Key n k × (p ≤ placeIn k)) (keysFrom lot alg i p os)
-  unfolding keysFrom
+  unfolding keysFrom keysOf
   from-stands p n [] b s e h = tt
-  from-stands p n (o ∷ os) b s e h = go (mayMeet i o) refl (later (keysFrom lot alg i (suc p) os) (from-stands (suc p) n os (b .1) (s .1) (omega arith) h))
+  from-stands p n (o ∷ os) b s e h =
+      one shown (consIf (offers i hidden o) (key hidden) later)
+      (one hidden later
+      (every-weaken {P = λ k. Key n k × (suc p ≤ placeIn k)} {Q = From} (λ k x. (x .0, omega (arith, x .1))) later (from-stands (suc p) n os (b .1) (s .1) (omega arith) h)))
     where
-      key : ℕ
-      key = partKey lot alg (i .taker .side) p o
+      later : List ℕ
+      later = keysFrom lot alg i (suc p) os
 
-      later : (ks : List ℕ) → Every (λ k. Key n k × (suc p ≤ placeIn k)) ks → Every (λ k. Key n k × (p ≤ placeIn k)) ks
-      later ks a = every-weaken {P = λ k. Key n k × (suc p ≤ placeIn k)} {Q = λ k. Key n k × (p ≤ placeIn k)} (λ k x. (x .0, omega (arith, x .1))) ks a
+      From : ℕ → Type 0
+      From k = Key n k × (p ≤ placeIn k)
 
-      go : (c : Bool) → mayMeet i o ≡ c → Every (λ k. Key n k × (p ≤ placeIn k)) (keysFrom lot alg i (suc p) os)
-          → Every (λ k. Key n k × (p ≤ placeIn k)) (consIf c key (keysFrom lot alg i (suc p) os))
-      go true m r =
-          let a = and-true (isTradable (i .taker) o) (leb (minimumOf (o .kind)) (i .size .0)) m in
-          let d = and-true (isOppositeOf (i .taker) o) (withinLimit (i .taker .side) (i .taker .limit .0) (priceOf o)) (a .0) in
-          let q = part-place lot alg (i .taker .side) p (omega arith) o (order-facts o (s .0)) in
-          ((record { within = omega arith; opposite = rw (q, b .0) (d .0); is = rw (q, b .0) }, omega arith), r)
-      go false m r = r
+      key : Visibility → ℕ
+      key v = partKey lot alg (i .taker .side) v p o
+
+      one : (v : Visibility) (ks : List ℕ) → Every From ks → Every From (consIf (offers i v o) (key v) ks)
+      one v ks r = go (offers i v o) refl
+        where
+          go : (c : Bool) → offers i v o ≡ c → Every From (consIf c (key v) ks)
+          go true m =
+              let x = and-true (mayMeet i o) (ltb 0 (sharesOf v (interestOf o))) m in
+              let a = and-true (isTradable (i .taker) o) (leb (minimumOf (o .kind)) (i .size .0)) (x .0) in
+              let d = and-true (isOppositeOf (i .taker) o) (withinLimit (i .taker .side) (i .taker .limit .0) (priceOf o)) (a .0) in
+              let q = part-place lot alg (i .taker .side) v p (omega arith) o (order-facts o (s .0)) in (
+                (
+                  record {
+                    within = omega arith;
+                    opposite = rw (q, b .0) (d .0);
+                    visibility = v;
+                    some = rw (q, b .0) (ltb-true 0 (sharesOf v (interestOf o)) (x .1));
+                    is = rw (q, b .0);
+                  },
+                  omega arith,
+                ),
+                r,
+              )
+          go false m = r
 
   -- no two are the same
   from-distinct : (p n : ℕ) (os : List Order) → Beside at p os → Every OrderSound os → p + length os ≡ n → n ≤ 512 → Distinct (keysFrom lot alg i p os)
-  unfolding keysFrom
+  unfolding keysFrom keysOf
   from-distinct p n [] b s e h = tt
-  from-distinct p n (o ∷ os) b s e h =
-      go (mayMeet i o) (from-distinct (suc p) n os (b .1) (s .1) (omega arith) h) (from-stands (suc p) n os (b .1) (s .1) (omega arith) h)
+  from-distinct p n (o ∷ os) b s e h = first (offers i shown o) (consIf (offers i hidden o) (key hidden) later) (second (offers i hidden o) (from-distinct (suc p) n os (b .1) (s .1) (omega arith) h))
     where
-      key : ℕ
-      key = partKey lot alg (i .taker .side) p o
+      later : List ℕ
+      later = keysFrom lot alg i (suc p) os
 
-      place : placeIn key ≡ p
-      place = part-place lot alg (i .taker .side) p (omega arith) o (order-facts o (s .0))
+      key : Visibility → ℕ
+      key v = partKey lot alg (i .taker .side) v p o
 
-      go : (c : Bool) → Distinct (keysFrom lot alg i (suc p) os) → Every (λ k. Key n k × (suc p ≤ placeIn k)) (keysFrom lot alg i (suc p) os)
-          → Distinct (consIf c key (keysFrom lot alg i (suc p) os))
-      go true d r = (every-weaken (λ k x y. omega (arith, x .1, place, ap placeIn y)) (keysFrom lot alg i (suc p) os) r, d)
-      go false d r = d
+      -- a key of a visibility differs from those of later records
+      behind : (v : Visibility) → Every (λ q. key v ≡ q → ⊥) later
+      behind v =
+          every-weaken (λ k x y. omega (arith, x .1, part-place lot alg (i .taker .side) v p (omega arith) o (order-facts o (s .0)), ap placeIn y)) later
+          (from-stands (suc p) n os (b .1) (s .1) (omega arith) h)
+
+      -- and from the other of its own
+      apart : key shown ≡ key hidden → ⊥
+      apart q =
+          let f = order-facts o (s .0) in
+          let v : shown ≡ hidden =
+          sym (part-visible lot alg (i .taker .side) shown p (omega arith) o f) ∙ ap (visibilityIn alg) q ∙ part-visible lot alg (i .taker .side) hidden p (omega arith) o f in
+          let z : _≡_ {A = ℕ} 0 1 = cc in
+          omega arith
+
+      second : (c : Bool) → Distinct later → Every (λ q. key shown ≡ q → ⊥) (consIf c (key hidden) later) × Distinct (consIf c (key hidden) later)
+      second true d = ((apart, behind shown), (behind hidden, d))
+      second false d = (behind shown, d)
+
+      first : (c : Bool) (ks : List ℕ) → Every (λ q. key shown ≡ q → ⊥) ks × Distinct ks → Distinct (consIf c (key shown) ks)
+      first true ks r = r
+      first false ks r = r .1
 
   -- those that are needed, sorted
   pub arranged-ready : (os : List Order) → Beside at 0 os → Every OrderSound os → length os ≤ 256 → {keys : List ℕ} → Arranged lot alg i os keys

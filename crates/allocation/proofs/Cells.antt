@@ -1,12 +1,12 @@
 -- The group of a paragraph at a price: its number, and which orders' keys have it.
-use Prim.Native.Nat.{ℕ, suc, _+_, _*_, _%_, _≤_, _<_}
+use Prim.Native.Nat.{ℕ, suc, _+_, _*_, _≤_, _<_}
 use mathlib.Core.Path.{_≡_, refl, sym, ap, _∙_}
 use mathlib.Core.Bool.{Bool, true, false, _&&_}
 use mathlib.Core.List.{List, [], _∷_, map}
 use native.Mathlib.Omega.{arith}
-use lib.Dec.{leb, eqb}
+use lib.Dec.{leb, ltb, eqb}
 use lib.ListN.{length}
-use borrow.Author.Tests.{eqb-true, eq-eqb, leb-false}
+use borrow.Author.Tests.{eqb-true, eq-eqb, ltb-true, leb-false}
 use Rattle.units.specs.Lists.{filter, consIf}
 use Rattle.units.proofs.Members.{Every}
 use Rattle.units.proofs.Tests.{and-true, true-and, same-test}
@@ -14,7 +14,9 @@ use Rattle.orders.specs.declared.order.Side.{Side}
 use Rattle.orders.specs.declared.order.Side.the-variants.{Buy, Sell}
 use Rattle.orders.specs.declared.order.Order.{Order}
 use Rattle.orders.specs.declared.order.Taker.{Taker}
-use Rattle.orders.specs.Order.{minimumOf, priceOf, sizeOf}
+use Rattle.orders.specs.declared.order.Kind.{Kind}
+use Rattle.orders.specs.declared.order.Kind.the-variants.{Displayed, NonDisplayed, MinimumQuantity, Reserve}
+use Rattle.orders.specs.Order.{Visibility, shown, hidden, sharesOf, interestBy, interestOf, isMinimumQuantity, minimumOf, hiddenOf, priceOf, sizeOf}
 use Rattle.orders.specs.Trading.{isOppositeOf, withinLimit, isTradable}
 use Rattle.record.proofs.Orders.{OrderSound, OrderFacts, order-facts}
 use Rattle.matching.specs.declared.Algorithm.{Algorithm}
@@ -22,12 +24,15 @@ use Rattle.matching.specs.declared.Paragraph.{Paragraph}
 use Rattle.matching.specs.declared.incoming.Incoming.{Incoming}
 use Rattle.matching.specs.Paragraph.{Group, groupOf, inGroup, partOf, paragraphNumber}
 use Rattle.matching.specs.Numbered.{paragraphNumbered}
-use Rattle.matching.proofs.Places.{numbered-back, number-numbered, number-back}
+use Rattle.matching.specs.Reserve.{sameVisibility}
+use Rattle.matching.proofs.Places.{same-visibility, standsIn, numbered-back, number-numbered, number-back}
 use Rattle.matching.proofs.Parts.{stands, part-in, part-out}
 use Rattle.parts.specs.Key.{groupIn, paragraphIn, placeIn, sharesIn}
-use Rattle.parts.specs.Parts.{rankOn, paragraphFor, partKey, mayMeet, keysFrom}
+use Rattle.parts.specs.Parts.{rankOn, paragraphFor, partKey, mayMeet, offers, keysOf, keysFrom}
+use Rattle.parts.specs.Visible.{visibleBy, visibilityIn}
 use Rattle.parts.proofs.Keys.{key-group, key-place, key-shares, group-paragraph}
-use Rattle.parts.proofs.Paragraphs.{in-paragraph, all-stand, for-numbered}
+use Rattle.parts.proofs.Paragraphs.{in-paragraph, for-numbered}
+use Rattle.parts.proofs.Seeing.{visible-back}
 use Rattle.allocation.specs.Walk.{paragraphOf, partIn}
 use Rattle.allocation.proofs.LeftOut.{Idle}
 use Rattle.allocation.proofs.Rows.{Row}
@@ -56,36 +61,80 @@ pub rank-same : (side : Side) (p q : ℕ) → p ≤ 2000000000 → q ≤ 2000000
 rank-same Buy p q h k e = e
 rank-same Sell p q h k e = omega arith
 
+-- what stands in front of lists that a test leaves the same
+filter-cons : (q : ℕ → Bool) (b : Bool) (x : ℕ) (xs ys : List ℕ) → filter q xs ≡ filter q ys → filter q (consIf b x xs) ≡ filter q (consIf b x ys)
+filter-cons q true x xs ys e = ap (consIf (q x) x) e
+filter-cons q false x xs ys e = e
+
 -- orders stand at their places, the first at p
 abbrev pub Beside : (ℕ → Order) → ℕ → List Order → Type 0
 Beside at p [] = Unit {0}
 Beside at p (o ∷ os) = (at p ≡ o) × Beside at (suc p) os
 
--- What the key of a sound order holds.
-module _ (lot : ℕ) (alg : Algorithm) (side : Side) (p : ℕ) (h : p < 512) (o : Order) (f : OrderFacts o) where
+-- a sound order has fewer than 1,048,576 shares of each visibility
+interest-low : (o : Order) → OrderFacts o → (v : Visibility) → sharesOf v (interestOf o) < 1048576
+interest-low o f v = go (o .kind) v (f .hidden-most)
+  where
+    go : (k : Kind) (v : Visibility) → hiddenOf k ≤ 999999 → sharesOf v (interestBy k (sizeOf o)) < 1048576
+    go Displayed shown h = let m = f .size-most in omega arith
+    go Displayed hidden h = omega arith
+    go NonDisplayed shown h = omega arith
+    go NonDisplayed hidden h = let m = f .size-most in omega arith
+    go (MinimumQuantity n) shown h = omega arith
+    go (MinimumQuantity n) hidden h = let m = f .size-most in omega arith
+    go (Reserve b r) shown h = let m = f .size-most in omega arith
+    go (Reserve b r) hidden h = omega arith
+
+-- shares of the group's visibility stand in it, and no others
+standing-seen : (g : Group) (o : Order) (v : Visibility)
+    → standsIn v (isMinimumQuantity (o .kind)) (sharesOf v (interestOf o)) g ≡ (sameVisibility v (g .visibility) && inGroup g o)
+standing-seen g o v = go v (g .visibility)
+  where
+    m : Bool
+    m = isMinimumQuantity (o .kind)
+
+    go : (v w : Visibility)
+        → (sameVisibility v w && (ltb 0 (sharesOf v (interestOf o)) && g .holds m (sharesOf v (interestOf o))))
+        ≡ (sameVisibility v w && (ltb 0 (sharesOf w (interestOf o)) && g .holds m (sharesOf w (interestOf o))))
+    go shown shown = refl
+    go shown hidden = refl
+    go hidden shown = refl
+    go hidden hidden = refl
+
+-- What the key of a part of a sound order holds.
+module _ (lot : ℕ) (alg : Algorithm) (side : Side) (v : Visibility) (p : ℕ) (h : p < 512) (o : Order) (f : OrderFacts o) where
+  abbrev shares : ℕ
+  shares = sharesOf v (interestOf o)
+
   abbrev paragraph : ℕ
-  paragraph = paragraphFor lot alg (o .kind) (sizeOf o)
+  paragraph = paragraphFor lot alg v (isMinimumQuantity (o .kind)) shares
 
   few : paragraph < 8
-  few = let l = for-numbered lot alg (o .kind) (sizeOf o) .most in omega arith
+  few = let l = for-numbered lot alg v (isMinimumQuantity (o .kind)) shares .most in omega arith
 
-  low : sizeOf o < 1048576
-  low = let m = f .size-most in omega arith
+  pub part-group : groupIn (partKey lot alg side v p o) ≡ 8 * rankOn side (priceOf o) + paragraph
+  part-group = key-group (rankOn side (priceOf o)) paragraph p shares few h (interest-low o f v)
 
-  pub part-group : groupIn (partKey lot alg side p o) ≡ 8 * rankOn side (priceOf o) + paragraph
-  part-group = key-group (rankOn side (priceOf o)) paragraph p (sizeOf o) few h low
+  pub part-place : placeIn (partKey lot alg side v p o) ≡ p
+  part-place = key-place (rankOn side (priceOf o)) paragraph p shares few h (interest-low o f v)
 
-  pub part-place : placeIn (partKey lot alg side p o) ≡ p
-  part-place = key-place (rankOn side (priceOf o)) paragraph p (sizeOf o) few h low
+  pub part-shares : sharesIn (partKey lot alg side v p o) ≡ shares
+  part-shares = key-shares (rankOn side (priceOf o)) paragraph p shares few h (interest-low o f v)
 
-  pub part-shares : sharesIn (partKey lot alg side p o) ≡ sizeOf o
-  part-shares = key-shares (rankOn side (priceOf o)) paragraph p (sizeOf o) few h low
+  -- its paragraph, by its number
+  pub part-number : paragraphIn (groupIn (partKey lot alg side v p o)) ≡ paragraph
+  part-number = ap paragraphIn part-group ∙ group-paragraph (rankOn side (priceOf o)) paragraph few
 
-  -- it is of a group where the order has the price and stands in the paragraph's group
-  in-cell : (price : ℕ) → price ≤ 2000000000 → (g : Paragraph)
-      → eqb (groupIn (partKey lot alg side p o)) (cell side price g) ≡ (eqb (priceOf o) price && inGroup (groupOf lot alg g) o)
-  in-cell price k g =
-      rw (part-group, in-paragraph lot alg g o (omega (arith, f .size-least)))
+  -- its visibility can be read from it
+  pub part-visible : visibilityIn alg (partKey lot alg side v p o) ≡ v
+  part-visible = ap (visibleBy alg) part-number ∙ visible-back lot alg v (isMinimumQuantity (o .kind)) shares
+
+  -- it is of a group where the order has the price and its shares of the group's visibility, which is the part's, stand in it
+  in-cell : 0 < shares → (price : ℕ) → price ≤ 2000000000 → (g : Paragraph)
+      → eqb (groupIn (partKey lot alg side v p o)) (cell side price g)
+      ≡ (eqb (priceOf o) price && (sameVisibility v (groupOf lot alg g .visibility) && inGroup (groupOf lot alg g) o))
+  in-cell some price k g =
+      rw (part-group, sym (standing-seen (groupOf lot alg g) o v), in-paragraph lot shares some (isMinimumQuantity (o .kind)) alg v g)
       (same-test (eqb (8 * rankOn side (priceOf o) + paragraph) (cell side price g)) (eqb (priceOf o) price && eqb paragraph (paragraphNumber g)) there back)
     where
       there : eqb (8 * rankOn side (priceOf o) + paragraph) (cell side price g) ≡ true → (eqb (priceOf o) price && eqb paragraph (paragraphNumber g)) ≡ true
@@ -101,18 +150,21 @@ module _ (lot : ℕ) (alg : Algorithm) (side : Side) (p : ℕ) (h : p < 512) (o 
           eq-eqb (8 * rankOn side (priceOf o) + paragraph) (cell side price g)
           (rw (eqb-true (priceOf o) price (a .0), eqb-true paragraph (paragraphNumber g) (a .1)))
 
--- an order on the other side stands in the group that its key is of
-pub part-stands : (lot : ℕ) (alg : Algorithm) (t : Taker) (p : ℕ) → p < 512 → (o : Order) → OrderFacts o → isOppositeOf t o ≡ true
-    → stands t (priceOf o) (groupOf lot alg (paragraphOf (groupIn (partKey lot alg (t .side) p o)))) o ≡ true
-part-stands lot alg t p h o f e =
-    let k = groupIn (partKey lot alg (t .side) p o) in
-    let g = paragraphOf k in
-    let n = group-paragraph (rankOn (t .side) (priceOf o)) (paragraphFor lot alg (o .kind) (sizeOf o)) (few lot alg (t .side) p h o f) in
-    true-and (true-and e (eq-eqb (priceOf o) (priceOf o) refl))
-    (in-paragraph lot alg g o (omega (arith, f .size-least))
-    ∙ eq-eqb (paragraphFor lot alg (o .kind) (sizeOf o)) (paragraphNumber g)
-    (sym (ap (λ j. paragraphNumber (paragraphNumbered j)) (ap (λ j. j % 8) (part-group lot alg (t .side) p h o f) ∙ n)
-    ∙ number-back (paragraphFor lot alg (o .kind) (sizeOf o)) (for-numbered lot alg (o .kind) (sizeOf o)))))
+  -- the group that it is of is of its visibility, and the order is in it
+  pub part-inside : 0 < shares → let g = groupOf lot alg (paragraphOf (groupIn (partKey lot alg side v p o))) in (v ≡ g .visibility) × (inGroup g o ≡ true)
+  part-inside some =
+      let g = paragraphOf (groupIn (partKey lot alg side v p o)) in
+      let n : paragraph ≡ paragraphNumber g =
+      sym (ap (λ j. paragraphNumber (paragraphNumbered j)) part-number ∙ number-back paragraph (for-numbered lot alg v (isMinimumQuantity (o .kind)) shares)) in
+      let e = sym (standing-seen (groupOf lot alg g) o v) ∙ in-paragraph lot shares some (isMinimumQuantity (o .kind)) alg v g ∙ eq-eqb paragraph (paragraphNumber g) n in
+      let a = and-true (sameVisibility v (groupOf lot alg g .visibility)) (inGroup (groupOf lot alg g) o) e in
+      (same-visibility v (groupOf lot alg g .visibility) (a .0), a .1)
+
+-- an order on the other side stands in the group that the key of its part is of
+pub part-stands : (lot : ℕ) (alg : Algorithm) (t : Taker) (v : Visibility) (p : ℕ) (h : p < 512) (o : Order) (f : OrderFacts o) → isOppositeOf t o ≡ true
+    → 0 < sharesOf v (interestOf o) → stands t (priceOf o) (groupOf lot alg (paragraphOf (groupIn (partKey lot alg (t .side) v p o)))) o ≡ true
+part-stands lot alg t v p h o f e some =
+    true-and (true-and e (eq-eqb (priceOf o) (priceOf o) refl)) (part-inside lot alg (t .side) v p h o f some .1)
 
 -- The group of a paragraph at a price within the limit.
 module _ (lot : ℕ) (alg : Algorithm) (i : Incoming) (at : ℕ → Order) (price : ℕ) (h : price ≤ 2000000000)
@@ -133,56 +185,96 @@ module _ (lot : ℕ) (alg : Algorithm) (i : Incoming) (at : ℕ → Order) (pric
   abbrev meets : Order → Bool
   meets o = leb (minimumOf (o .kind)) size
 
+  -- The part of the group's visibility, where the order has such shares.
   module _ (p : ℕ) (l : p < 512) (o : Order) (f : OrderFacts o) where
-    abbrev key : ℕ
-    key = partKey lot alg (t .side) p o
+    abbrev own : Visibility
+    own = group .visibility
 
-    -- an order whose part is needed and is of the group stands in it
-    chosen : mayMeet i o ≡ true → ofGroup number key ≡ true → (stands t price group o ≡ true) × (priceOf o ≡ price)
+    abbrev key : Visibility → ℕ
+    key v = partKey lot alg (t .side) v p o
+
+    same-own : (v : Visibility) → sameVisibility v v ≡ true
+    same-own shown = refl
+    same-own hidden = refl
+
+    -- a part that is needed and is of the group: the order stands in it
+    chosen : offers i own o ≡ true → ofGroup number (key own) ≡ true → (stands t price group o ≡ true) × (priceOf o ≡ price)
     chosen a b =
-        let c = and-true (isTradable t o) (meets o) a in
+        let n = and-true (mayMeet i o) (ltb 0 (sharesOf own (interestOf o))) a in
+        let c = and-true (isTradable t o) (meets o) (n .0) in
         let d = and-true (isOppositeOf t o) (withinLimit (t .side) (t .limit .0) (priceOf o)) (c .0) in
-        let e = and-true (eqb (priceOf o) price) (inGroup group o) (sym (in-cell lot alg (t .side) p l o f price h g) ∙ b) in
+        let w = in-cell lot alg (t .side) own p l o f (ltb-true 0 (sharesOf own (interestOf o)) (n .1)) price h g in
+        let e = and-true (eqb (priceOf o) price) (inGroup group o) (sym (rw (same-own own) at w) ∙ b) in
         (true-and (true-and (d .0) (e .0)) (e .1), eqb-true (priceOf o) price (e .0))
 
-    -- one that stands in it has a part of it, which is needed if its minimum can be met
-    standing : stands t price group o ≡ true → (ofGroup number key ≡ true) × (mayMeet i o ≡ meets o)
+    -- an order that stands in it has a part of it, which is needed if its minimum can be met
+    standing : stands t price group o ≡ true → (ofGroup number (key own) ≡ true) × (offers i own o ≡ meets o)
     standing a =
         let c = and-true (isOppositeOf t o && eqb (priceOf o) price) (inGroup group o) a in
         let d = and-true (isOppositeOf t o) (eqb (priceOf o) price) (c .0) in
-        let e = eqb-true (priceOf o) price (d .1) in (
-          in-cell lot alg (t .side) p l o f price h g ∙ true-and (d .1) (c .1),
-          rw (d .0, e, w),
+        let e = eqb-true (priceOf o) price (d .1) in
+        let n = and-true (ltb 0 (sharesOf own (interestOf o))) (group .holds (isMinimumQuantity (o .kind)) (sharesOf own (interestOf o))) (c .1) .0 in (
+          in-cell lot alg (t .side) own p l o f (ltb-true 0 (sharesOf own (interestOf o)) n) price h g ∙ true-and (d .1) (true-and (same-own own) (c .1)),
+          rw (d .0, e, w, n) (and-right (meets o)),
         )
+      where
+        and-right : (b : Bool) → (b && true) ≡ b
+        and-right true = refl
+        and-right false = refl
 
     -- what of it stands in the group is its part
-    whole : stands t price group o ≡ true → at p ≡ o → partOf t price group o ≡ partIn at key
-    whole a e =
-        let c = and-true (isOppositeOf t o && eqb (priceOf o) price) (inGroup group o) a in
-        part-in t price group o a ∙ rw (part-place lot alg (t .side) p l o f, e, part-shares lot alg (t .side) p l o f, all-stand lot alg g o (c .1))
+    whole : stands t price group o ≡ true → at p ≡ o → partOf t price group o ≡ partIn at (key own)
+    whole a e = part-in t price group o a ∙ rw (part-place lot alg (t .side) own p l o f, e, part-shares lot alg (t .side) own p l o f)
 
     -- else it can get nothing
-    idle : (mayMeet i o && ofGroup number key) ≡ false → Idle size (partOf t price group o)
+    idle : (offers i own o && ofGroup number (key own)) ≡ false → Idle size (partOf t price group o)
     idle a = go (stands t price group o) refl
       where
         go : (b : Bool) → stands t price group o ≡ b → Idle size (partOf t price group o)
         go false e = rw (part-out t price group o e) (Idle.nothing (refl, refl))
         go true e =
             let c = standing e in
-            let d : meets o ≡ false = sym (c .1) ∙ first (mayMeet i o) (c .0) a in
+            let d : meets o ≡ false = sym (c .1) ∙ first (offers i own o) (c .0) a in
             Idle.unmet (rw (part-in t price group o e) (leb-false (minimumOf (o .kind)) size d))
           where
-            first : (b : Bool) → ofGroup number key ≡ true → (b && ofGroup number key) ≡ false → b ≡ false
+            first : (b : Bool) → ofGroup number (key own) ≡ true → (b && ofGroup number (key own)) ≡ false → b ≡ false
             first true x y = sym x ∙ y
             first false x y = refl
 
+    -- a part of the other visibility isn't of the group
+    other-out : (v : Visibility) → sameVisibility v own ≡ false → (keys : List ℕ)
+        → filter (ofGroup number) (consIf (offers i v o) (key v) keys) ≡ filter (ofGroup number) keys
+    other-out v d keys = go (offers i v o) refl
+      where
+        go : (b : Bool) → offers i v o ≡ b → filter (ofGroup number) (consIf b (key v) keys) ≡ filter (ofGroup number) keys
+        go false e = refl
+        go true e =
+            let n = ltb-true 0 (sharesOf v (interestOf o)) (and-true (mayMeet i o) (ltb 0 (sharesOf v (interestOf o))) e .1) in
+            let out : ofGroup number (key v) ≡ false = in-cell lot alg (t .side) v p l o f n price h g ∙ rw d (and-out (eqb (priceOf o) price)) in
+            rw out
+          where
+            and-out : (b : Bool) → (b && false) ≡ false
+            and-out true = refl
+            and-out false = refl
+
+    -- so of its parts that of the group's visibility alone may be
+    own-part : (keys : List ℕ) → filter (ofGroup number) (keysOf lot alg i p o keys) ≡ filter (ofGroup number) (consIf (offers i own o) (key own) keys)
+    unfolding keysOf
+    own-part keys = go own refl
+      where
+        go : (v : Visibility) → own ≡ v
+            → filter (ofGroup number) (consIf (offers i shown o) (key shown) (consIf (offers i hidden o) (key hidden) keys))
+            ≡ filter (ofGroup number) (consIf (offers i v o) (key v) keys)
+        go shown e = filter-cons (ofGroup number) (offers i shown o) (key shown) (consIf (offers i hidden o) (key hidden) keys) keys (other-out hidden (ap (sameVisibility hidden) e) keys)
+        go hidden e = other-out shown (ap (sameVisibility shown) e) (consIf (offers i hidden o) (key hidden) keys)
+
   -- beside the orders of a book stand their parts in the group, and the keys of it
   pub cell-row : (p : ℕ) (os : List Order) → Beside at p os → Every OrderSound os → p + length os ≤ 512
-      → Row at price number size p os (map (partOf t price group) os) (filter (ofGroup number) (keysFrom lot alg i p os))
+      → Row alg at price number size p os (map (partOf t price group) os) (filter (ofGroup number) (keysFrom lot alg i p os))
   unfolding keysFrom
   cell-row p [] b s l = Row.none p
   cell-row p (o ∷ os) b s l =
-      go (mayMeet i o) refl (ofGroup number (key p k o f)) refl (cell-row (suc p) os (b .1) (s .1) (omega arith))
+      rw (own-part p k o f later) (go (offers i (own p k o f) o) refl (ofGroup number ours) refl (cell-row (suc p) os (b .1) (s .1) (omega arith)))
     where
       k : p < 512
       k = omega arith
@@ -193,12 +285,15 @@ module _ (lot : ℕ) (alg : Algorithm) (i : Incoming) (at : ℕ → Order) (pric
       later : List ℕ
       later = keysFrom lot alg i (suc p) os
 
-      go : (x : Bool) → mayMeet i o ≡ x → (y : Bool) → ofGroup number (key p k o f) ≡ y
-          → Row at price number size (suc p) os (map (partOf t price group) os) (filter (ofGroup number) later)
-          → Row at price number size p (o ∷ os) (partOf t price group o ∷ map (partOf t price group) os) (filter (ofGroup number) (consIf x (key p k o f) later))
+      ours : ℕ
+      ours = key p k o f (group .visibility)
+
+      go : (x : Bool) → offers i (group .visibility) o ≡ x → (y : Bool) → ofGroup number ours ≡ y
+          → Row alg at price number size (suc p) os (map (partOf t price group) os) (filter (ofGroup number) later)
+          → Row alg at price number size p (o ∷ os) (partOf t price group o ∷ map (partOf t price group) os) (filter (ofGroup number) (consIf x ours later))
       go true a true c r =
           let d = chosen p k o f a c in
           rw c
-          (Row.keep (b .0) (d .1) (part-place lot alg (t .side) p k o f) (eqb-true (groupIn (key p k o f)) number c) (whole p k o f (d .0) (b .0)) r)
+          (Row.keep (b .0) (d .1) (part-place lot alg (t .side) (group .visibility) p k o f) (eqb-true (groupIn ours) number c) (whole p k o f (d .0) (b .0)) r)
       go true a false c r = rw c (Row.drop (idle p k o f (rw (a, c))) r)
       go false a y c r = Row.drop (idle p k o f (rw a)) r

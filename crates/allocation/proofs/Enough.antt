@@ -1,7 +1,7 @@
 -- Parts without a minimum that have as many shares as come in take them all.
 use Prim.Native.Nat.{ℕ, _+_, _-_, _≤_, _<_}
 use mathlib.Core.Path.{_≡_, refl}
-use mathlib.Core.Bool.{Bool, true, false, not, cond, true≢false}
+use mathlib.Core.Bool.{Bool, true, false, not, true≢false}
 use mathlib.Core.List.{List, [], _∷_, _++_, map}
 use native.Mathlib.Omega.{arith}
 use native.Mathlib.Nat.{zero-add}
@@ -14,12 +14,10 @@ use Rattle.units.proofs.Totals.{total-append, total-map}
 use Rattle.units.proofs.Members.{Every, every-split}
 use Rattle.sharing.specs.Rank.{Part, partSize}
 use Rattle.sharing.proofs.Filled.{Met, Each}
-use Rattle.orders.specs.declared.order.Kind.{Kind}
-use Rattle.orders.specs.declared.order.Kind.the-variants.{Displayed, NonDisplayed, MinimumQuantity}
 use Rattle.orders.specs.declared.order.Side.{Side}
 use Rattle.orders.specs.declared.order.Order.{Order}
 use Rattle.orders.specs.declared.order.Taker.{Taker}
-use Rattle.orders.specs.Order.{isDisplayed, sizeOf}
+use Rattle.orders.specs.Order.{Visibility, shown, hidden, sharesOf, interestOf, isMinimumQuantity}
 use Rattle.book.proofs.Soundness.{OrdersSound}
 use Rattle.matching.specs.declared.Algorithm.{Algorithm}
 use Rattle.matching.specs.declared.Algorithm.the-variants.{PriceTime, ProRata, PriceSetter}
@@ -34,30 +32,27 @@ use Rattle.allocation.proofs.Cells.{Beside}
 use Rattle.allocation.proofs.Gets.{sum-none}
 use Rattle.allocation.proofs.Stretches.{key-paragraph, stretch-free, stretch-filled}
 
-pro-rata-free : (lot : ℕ) (kind : Kind) (n : ℕ) → eqb (proRataParagraph lot kind n) 5 ≡ false
-    → hasNoMinimum ProRata (paragraphNumbered (proRataParagraph lot kind n)) ≡ true
-pro-rata-free lot Displayed n e = go (ltb n lot)
+pro-rata-free : (lot : ℕ) (v : Visibility) (m : Bool) (n : ℕ) → eqb (proRataParagraph lot v m n) 5 ≡ false
+    → hasNoMinimum ProRata (paragraphNumbered (proRataParagraph lot v m n)) ≡ true
+pro-rata-free lot shown m n e = go (ltb n lot)
   where
     go : (b : Bool) → hasNoMinimum ProRata (paragraphNumbered (2 + orZero b 1)) ≡ true
     go true = refl
     go false = refl
-pro-rata-free lot NonDisplayed n e = go (ltb n lot)
+pro-rata-free lot hidden true n e = absurd (true≢false e)
+pro-rata-free lot hidden false n e = go (ltb n lot)
   where
     go : (b : Bool) → hasNoMinimum ProRata (paragraphNumbered (4 + orZero b 2)) ≡ true
     go true = refl
     go false = refl
-pro-rata-free lot (MinimumQuantity m) n e = absurd (true≢false e)
 
--- where a part's paragraph isn't the one for minimums, the definition's orders there have none
-free-place : (lot : ℕ) (alg : Algorithm) (kind : Kind) (n : ℕ) → eqb (paragraphFor lot alg kind n) (minimumParagraph alg) ≡ false
-    → hasNoMinimum alg (paragraphNumbered (paragraphFor lot alg kind n)) ≡ true
-free-place lot PriceTime kind n e = go (isDisplayed kind) e
-  where
-    go : (b : Bool) → eqb (cond b 2 3) 3 ≡ false → hasNoMinimum PriceTime (paragraphNumbered (cond b 2 3)) ≡ true
-    go true e = refl
-    go false e = absurd (true≢false e)
-free-place lot ProRata kind n e = pro-rata-free lot kind n e
-free-place lot PriceSetter kind n e = pro-rata-free lot kind n e
+-- where a part's paragraph isn't the one for minimums, the definition's parts there have none
+free-place : (lot : ℕ) (alg : Algorithm) (v : Visibility) (m : Bool) (n : ℕ) → eqb (paragraphFor lot alg v m n) (minimumParagraph alg) ≡ false
+    → hasNoMinimum alg (paragraphNumbered (paragraphFor lot alg v m n)) ≡ true
+free-place lot PriceTime shown m n e = refl
+free-place lot PriceTime hidden m n e = absurd (true≢false e)
+free-place lot ProRata v m n e = pro-rata-free lot v m n e
+free-place lot PriceSetter v m n e = pro-rata-free lot v m n e
 
 -- of two lists that ascend as one each does
 ascending-split : (keys later : List ℕ) → Ascending (keys ++ later) → Ascending keys × Ascending later
@@ -115,10 +110,11 @@ module _ (lot : ℕ) (hasLot : 0 < lot) (alg : Algorithm) (t : Taker) (at : ℕ 
         go : (c : Bool) → eqb (paragraphIn (groupIn first)) (minimumParagraph alg) ≡ c → total (free alg) (first ∷ keys) ≤ sum shared
         go true q = let z = free-none alg (groupIn first) q (first ∷ keys) (refl, e) in omega arith
         go false q =
-            let p = key-paragraph lot alg t at os s few b first (r .each .0) in
+            let x = r .each .0 in
+            let p = key-paragraph lot alg t at os s few b first x in
             let o = at (placeIn first) in
             let f : hasNoMinimum alg (paragraphNumbered (paragraphIn (groupIn first))) ≡ true =
-            rw p (free-place lot alg (o .kind) (sizeOf o) (rw p at q)) in
+            rw p (free-place lot alg (x .visibility) (isMinimumQuantity (o .kind)) (sharesOf (x .visibility) (interestOf o)) (rw p at q)) in
             let m = all-full (left - sum shared) parts shared (stretch-free lot alg t at os s few b first keys r e f)
             (stretch-filled lot alg t at os s few b first keys r e hasLot left .met h) in
             omega (arith, free-most alg (first ∷ keys), total-map partSize (partIn at) (first ∷ keys))

@@ -10,7 +10,10 @@ use Rattle.units.specs.Lists.{consIf, sum, total}
 use Rattle.units.proofs.Tests.{pick-least}
 use Rattle.units.proofs.Totals.{cons-append}
 use Rattle.orders.specs.declared.order.Order.{Order}
+use Rattle.orders.specs.Order.{Visibility, shown, hidden, sharesOf, onlyOf}
+use Rattle.matching.specs.declared.Algorithm.{Algorithm}
 use Rattle.parts.specs.Key.{placeIn, sharesIn, withShares}
+use Rattle.parts.specs.Visible.{visibilityIn}
 use Rattle.parts.specs.Execution.{executionIn}
 use Rattle.allocation.specs.Walk.{executionsFrom, fillsOf, gotAt}
 
@@ -34,18 +37,27 @@ executions-append at (k ∷ keys) later (n ∷ gets) more e =
     ∙ cons-append (ltb 0 n) (executionIn at k n) (executionsFrom at keys gets) (executionsFrom at later more)
 
 -- and what a record gets
-pub got-append : (p : ℕ) (keys later gets more : List ℕ) → length gets ≡ length keys
-    → gotAt p (keys ++ later) (gets ++ more) ≡ gotAt p keys gets + gotAt p later more
-got-append p [] later [] more e = omega arith
-got-append p [] later (n ∷ gets) more e = absurd (omega arith)
-got-append p (k ∷ keys) later [] more e = absurd (omega arith)
-got-append p (k ∷ keys) later (n ∷ gets) more e = omega (arith, got-append p keys later gets more (omega arith))
+pub got-append : (alg : Algorithm) (v : Visibility) (p : ℕ) (keys later gets more : List ℕ) → length gets ≡ length keys
+    → gotAt alg v p (keys ++ later) (gets ++ more) ≡ gotAt alg v p keys gets + gotAt alg v p later more
+got-append alg v p [] later [] more e = omega arith
+got-append alg v p [] later (n ∷ gets) more e = absurd (omega arith)
+got-append alg v p (k ∷ keys) later [] more e = absurd (omega arith)
+got-append alg v p (k ∷ keys) later (n ∷ gets) more e = omega (arith, got-append alg v p keys later gets more (omega arith))
+
+-- shares of one visibility have no more of another
+pub only-within : (v w : Visibility) (n : ℕ) → sharesOf v (onlyOf w n) ≤ n
+only-within shown shown n = omega arith
+only-within shown hidden n = omega arith
+only-within hidden shown n = omega arith
+only-within hidden hidden n = omega arith
 
 -- a record gets no more than all
-pub got-within : (p : ℕ) (keys gets : List ℕ) → gotAt p keys gets ≤ sum gets
-got-within p [] gets = omega arith
-got-within p (k ∷ keys) [] = omega arith
-got-within p (k ∷ keys) (n ∷ gets) = omega (arith, pick-least (eqb (placeIn k) p) n, got-within p keys gets)
+pub got-within : (alg : Algorithm) (v : Visibility) (p : ℕ) (keys gets : List ℕ) → gotAt alg v p keys gets ≤ sum gets
+got-within alg v p [] gets = omega arith
+got-within alg v p (k ∷ keys) [] = omega arith
+got-within alg v p (k ∷ keys) (n ∷ gets) =
+    let m = sharesOf v (onlyOf (visibilityIn alg k) n) in
+    omega (arith, pick-least (eqb (placeIn k) p) m, only-within v (visibilityIn alg k) n, got-within alg v p keys gets)
 
 -- nobody got anything
 pub fills-none : (keys gets : List ℕ) → sum gets ≡ 0 → fillsOf keys gets ≡ []

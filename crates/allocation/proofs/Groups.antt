@@ -11,6 +11,7 @@ use Rattle.units.proofs.Members.{Every, member-every}
 use Rattle.sharing.specs.Rank.{Part}
 use Rattle.orders.specs.declared.order.Order.{Order}
 use Rattle.orders.specs.declared.order.Taker.{Taker}
+use Rattle.orders.specs.Order.{Visibility, sharesOf, onlyOf}
 use Rattle.orders.specs.Trading.{withinLimit}
 use Rattle.book.proofs.Soundness.{OrdersSound}
 use Rattle.matching.specs.declared.Algorithm.{Algorithm}
@@ -21,17 +22,20 @@ use Rattle.matching.specs.Take.{Allocation, used, allocationAt, executionsBy}
 use Rattle.matching.proofs.Parts.{partsAt, parts-rising}
 use Rattle.matching.proofs.Groups.{lots-no-minimum, no-minimum}
 use Rattle.matching.proofs.Allotting.{used-within}
+use Rattle.parts.specs.Key.{paragraphIn}
 use Rattle.parts.specs.Parts.{keysFrom}
+use Rattle.parts.specs.Visible.{visibleBy}
+use Rattle.parts.proofs.Seeing.{group-visible}
 use Rattle.allocation.specs.Walk.{partIn, executionsFrom, sharedBy, gotAt}
 use Rattle.allocation.proofs.LeftOut.{Idle, Alike, left-out}
 use Rattle.allocation.proofs.Rows.{Row, row-thin, row-sum, row-got, row-executions}
 use Rattle.allocation.proofs.Cells.{ofGroup, cell, cell-number, cell-paragraph, Beside, cell-row}
 
 -- An allocation beside the orders of a book, and numbers beside keys of their parts, give the same.
-pub record Allots (at : ℕ → Order) (os : List Order) (keys gets : List ℕ) (left : ℕ) (row : Allocation) : Type 0 where
+pub record Allots (alg : Algorithm) (at : ℕ → Order) (os : List Order) (keys gets : List ℕ) (left : ℕ) (row : Allocation) : Type 0 where
   pub executes : executionsBy (paragraphNumber (row .paragraph)) (row .price) os (row .allotment) ≡ executionsFrom at keys gets
   pub uses : used row ≡ sum gets
-  pub gives : (j : ℕ) → j < length os → getD (row .allotment) j 0 ≡ gotAt j keys gets
+  pub gives : (v : Visibility) (j : ℕ) → j < length os → sharesOf v (onlyOf (row .visibility) (getD (row .allotment) j 0)) ≡ gotAt alg v j keys gets
   pub many : length gets ≡ length keys
   pub within : used row ≤ left
 
@@ -54,14 +58,14 @@ module _ (lot : ℕ) (hasLot : 0 < lot) (alg : Algorithm) (i : Incoming) (at : �
   abbrev row : Allocation
   row = allocationAt lot alg t os price g left
 
-  here : Row at price number (i .size .0) 0 os ps keys
+  here : Row alg at price number (i .size .0) 0 os ps keys
   here = cell-row lot alg i at price h w g 0 os b (s .each) (omega arith)
 
   alike : Alike (i .size .0) ps (map (partIn at) keys) (row .allotment) (sharedBy at lot alg number keys left)
   unfolding allocationAt sharedBy
   alike =
       rw (cell-paragraph (t .side) price g)
-      (left-out (row-thin at price number (i .size .0) here) 0 (parts-rising t price (groupOf lot alg g) 0 os (s .rise)) lot left l (methodOf alg g)
+      (left-out (row-thin alg at price number (i .size .0) here) 0 (parts-rising t price (groupOf lot alg g) 0 os (s .rise)) lot left l (methodOf alg g)
       (λ e. no-minimum lot alg g (lots-no-minimum alg g e) t price os))
 
   abbrev f : Part → ℕ
@@ -73,15 +77,23 @@ module _ (lot : ℕ) (hasLot : 0 < lot) (alg : Algorithm) (i : Incoming) (at : �
   uses-within : used row ≤ left
   uses-within = used-within lot hasLot alg t os (s .rise) (s .setters) price g left
 
-  pub cell-allots : Allots at os keys (sharedBy at lot alg number keys left) left row
+  -- the group's visibility can be read from its number
+  seen : visibleBy alg (paragraphIn number) ≡ groupOf lot alg g .visibility
+  seen = ap (visibleBy alg) (cell-number (t .side) price g) ∙ group-visible lot alg g
+
+  pub cell-allots : Allots alg at os keys (sharedBy at lot alg number keys left) left row
   unfolding allocationAt
   cell-allots = record {
     executes =
         rw (alike .whole, alike .kept)
         (ap (λ n. executionsBy n price os (map f ps)) (sym (cell-number (t .side) price g))
-        ∙ row-executions at price number (i .size .0) f here given);
-    uses = rw (alike .kept) (ap sum (alike .whole) ∙ row-sum at price number (i .size .0) f here given);
-    gives = λ j k. rw (alike .whole, alike .kept) (row-got at price number (i .size .0) f here given j k ∙ ap (λ p. gotAt p keys (map f (map (partIn at) keys))) (zero-add j));
+        ∙ row-executions alg at price number (i .size .0) f here given);
+    uses = rw (alike .kept) (ap sum (alike .whole) ∙ row-sum alg at price number (i .size .0) f here given);
+    gives = λ v j k.
+        rw (alike .whole, alike .kept)
+        (ap (λ w. sharesOf v (onlyOf w (getD (map f ps) j 0))) (sym seen)
+        ∙ row-got alg at price number (i .size .0) f here given v j k
+        ∙ ap (λ p. gotAt alg v p keys (map f (map (partIn at) keys))) (zero-add j));
     many = rw (alike .kept, length-map, length-map);
     within = uses-within;
   }

@@ -4,7 +4,7 @@ use mathlib.Core.Path.{_≡_, refl, subst}
 use mathlib.Core.Bool.{Bool, true, false}
 use mathlib.Core.List.{List, [], _∷_, _++_, map, List·Memᴰ, List·Memᴰ·head, List·Memᴰ·tail}
 use native.Mathlib.Omega.{arith}
-use lib.Dec.{leb}
+use lib.Dec.{leb, ltb}
 use lib.ListN.{length}
 use borrow.Author.Tests.{ltb-true}
 use Rattle.units.specs.Lists.{consIf}
@@ -14,7 +14,7 @@ use Rattle.orders.specs.declared.order.Side.{Side}
 use Rattle.orders.specs.declared.order.Side.the-variants.{Buy, Sell}
 use Rattle.orders.specs.declared.order.Order.{Order}
 use Rattle.orders.specs.declared.order.Taker.{Taker}
-use Rattle.orders.specs.Order.{minimumOf, priceOf, sizeOf}
+use Rattle.orders.specs.Order.{Visibility, shown, hidden, sharesOf, interestOf, isMinimumQuantity, minimumOf, priceOf}
 use Rattle.orders.specs.Trading.{isBetter, isOppositeOf, withinLimit, isTradable}
 use Rattle.record.proofs.Orders.{OrderSound, order-facts}
 use Rattle.matching.specs.declared.Algorithm.{Algorithm}
@@ -27,7 +27,7 @@ use Rattle.matching.specs.Levels.{priceLevels}
 use Rattle.matching.proofs.Places.{number-back}
 use Rattle.matching.proofs.Levels.{Sorted, levels-sorted, levels-have, levels-only}
 use Rattle.parts.specs.Key.{groupIn}
-use Rattle.parts.specs.Parts.{rankOn, paragraphFor, partKey, mayMeet, keysFrom}
+use Rattle.parts.specs.Parts.{rankOn, paragraphFor, partKey, mayMeet, offers, keysOf, keysFrom}
 use Rattle.parts.proofs.Paragraphs.{for-numbered}
 use Rattle.allocation.proofs.Cells.{cell, number-below, part-group}
 use Rattle.allocation.proofs.Along.{Cell, cellsAt, cellsOver, numberOf, Ascends, Fine}
@@ -107,25 +107,35 @@ module _ (lot : ℕ) (alg : Algorithm) (i : Incoming) (os : List Order) (s : Eve
   -- the group of every part is one of them
   within-from : (p : ℕ) (xs : List Order) → ((o : Order) → List·Memᴰ o xs → List·Memᴰ o os) → Every OrderSound xs → p + length xs ≤ 512
       → Every (λ k. List·Memᴰ (groupIn k) (map (numberOf (t .side)) cells)) (keysFrom lot alg i p xs)
-  unfolding keysFrom
+  unfolding keysFrom keysOf
   within-from p [] m f h = tt
-  within-from p (o ∷ xs) m f h = go (mayMeet i o) refl (within-from (suc p) xs (λ x n. m x (List·Memᴰ·tail n)) (f .1) (omega arith))
+  within-from p (o ∷ xs) m f h =
+      one shown (consIf (offers i hidden o) (key hidden) later) (one hidden later (within-from (suc p) xs (λ x n. m x (List·Memᴰ·tail n)) (f .1) (omega arith)))
     where
+      later : List ℕ
+      later = keysFrom lot alg i (suc p) xs
+
       Within : ℕ → Type 0
       Within k = List·Memᴰ (groupIn k) (map (numberOf (t .side)) cells)
 
-      go : (b : Bool) → mayMeet i o ≡ b → Every Within (keysFrom lot alg i (suc p) xs)
-          → Every Within (consIf b (partKey lot alg (t .side) p o) (keysFrom lot alg i (suc p) xs))
-      go true e r =
-          let a = and-true (isTradable t o) (leb (minimumOf (o .kind)) (i .size .0)) e in
-          let n = levels-have t os o (m o (List·Memᴰ·head refl)) (a .0) in
-          let j = paragraphFor lot alg (o .kind) (sizeOf o) in (
-            rw (part-group lot alg (t .side) p (omega arith) o (order-facts o (f .0)))
-                (subst (λ (j : ℕ). List·Memᴰ (8 * rankOn (t .side) (priceOf o) + j) (map (numberOf (t .side)) cells)) (number-back j (for-numbered lot alg (o .kind) (sizeOf o)))
-                (cell-member (t .side) (priceLevels t os) (priceOf o) n (paragraphNumbered j))),
-            r,
-          )
-      go false e r = r
+      key : Visibility → ℕ
+      key v = partKey lot alg (t .side) v p o
+
+      one : (v : Visibility) (ks : List ℕ) → Every Within ks → Every Within (consIf (offers i v o) (key v) ks)
+      one v ks r = go (offers i v o) refl
+        where
+          go : (b : Bool) → offers i v o ≡ b → Every Within (consIf b (key v) ks)
+          go true e =
+              let a = and-true (isTradable t o) (leb (minimumOf (o .kind)) (i .size .0)) (and-true (mayMeet i o) (ltb 0 (sharesOf v (interestOf o))) e .0) in
+              let n = levels-have t os o (m o (List·Memᴰ·head refl)) (a .0) in
+              let j = paragraphFor lot alg v (isMinimumQuantity (o .kind)) (sharesOf v (interestOf o)) in (
+                rw (part-group lot alg (t .side) v p (omega arith) o (order-facts o (f .0)))
+                    (subst (λ (j : ℕ). List·Memᴰ (8 * rankOn (t .side) (priceOf o) + j) (map (numberOf (t .side)) cells))
+                    (number-back j (for-numbered lot alg v (isMinimumQuantity (o .kind)) (sharesOf v (interestOf o))))
+                    (cell-member (t .side) (priceLevels t os) (priceOf o) n (paragraphNumbered j))),
+                r,
+              )
+          go false e = r
 
   pub keys-within : length os ≤ 256 → Every (λ k. List·Memᴰ (groupIn k) (map (numberOf (t .side)) cells)) (keysFrom lot alg i 0 os)
   keys-within few = within-from 0 os (λ o m. m) s (omega arith)

@@ -1,28 +1,19 @@
--- What each order loses by allocations: all that they give it, and it has no other shares.
+-- What each order loses by allocations: what they give it of each visibility.
 use Prim.Native.Nat.{ℕ, zero, suc, _+_, _-_, _≤_, _<_}
 use mathlib.Core.Path.{_≡_, refl, sym, ap, ap₂, _∙_}
 use mathlib.Core.List.{List, [], _∷_, map}
 use native.Mathlib.Omega.{arith}
 use lib.ListN.{length, getD, take, length-map, List·getD-map}
 use lib.Seq.{length-take-le, getD-take}
-use Rattle.units.specs.Lists.{total, zipWith}
-use Rattle.units.proofs.Tests.{pick-least}
-use Rattle.units.proofs.Members.{Every}
-use Rattle.sharing.specs.Rank.{Part}
-use Rattle.sharing.proofs.Filled.{Each}
-use Rattle.orders.specs.declared.order.Kind.{Kind}
-use Rattle.orders.specs.declared.order.Kind.the-variants.{Displayed, NonDisplayed, MinimumQuantity}
+use Rattle.units.specs.Lists.{zipWith}
 use Rattle.orders.specs.declared.order.Order.{Order}
 use Rattle.orders.specs.declared.order.Taker.{Taker}
-use Rattle.orders.specs.Order.{Visibility, shown, hidden, Interest, interest, noInterest, sharesOf, onlyOf, together, interestBy, interestOf, sizeOf, withInterest, settled}
+use Rattle.orders.specs.Order.{Visibility, shown, hidden, Interest, interest, noInterest, sharesOf, onlyOf, together}
 use Rattle.orders.specs.Losses.{lossesIn}
-use Rattle.book.proofs.Soundness.{OrdersSound}
 use Rattle.matching.specs.declared.Algorithm.{Algorithm}
-use Rattle.matching.specs.Paragraph.{groupOf, partOf}
 use Rattle.matching.specs.Take.{Allocation, used, allocationAt, lossesOf}
 use Rattle.matching.proofs.Entries.{Aligned}
-use Rattle.matching.proofs.Parts.{stands, part-size, allotted}
-use Rattle.matching.proofs.Allotting.{allotment-filled}
+use Rattle.matching.proofs.Parts.{allotted}
 use Rattle.allocation.proofs.Along.{Cell, along}
 
 module _ {A B C : Type 0} (f : A → B → C) where
@@ -40,27 +31,22 @@ module _ {A B C : Type 0} (f : A → B → C) where
   length-zip (x ∷ xs) [] e = absurd (omega arith)
   length-zip (x ∷ xs) (y ∷ ys) e = ap suc (length-zip xs ys (omega arith))
 
--- orders that lose alike are left alike
-settled-alike : (xs ys : List Interest) (os : List Order) → length xs ≡ length os → length ys ≡ length os
-    → ((j : ℕ) (z : Order) → j < length os → settled (getD xs j noInterest) (getD os j z) ≡ settled (getD ys j noInterest) (getD os j z))
-    → zipWith settled xs os ≡ zipWith settled ys os
-settled-alike [] [] os e f h = refl
-settled-alike [] (y ∷ ys) [] e f h = absurd (omega arith)
-settled-alike [] (y ∷ ys) (o ∷ os) e f h = absurd (omega arith)
-settled-alike (x ∷ xs) [] [] e f h = absurd (omega arith)
-settled-alike (x ∷ xs) [] (o ∷ os) e f h = absurd (omega arith)
-settled-alike (x ∷ xs) (y ∷ ys) [] e f h = absurd (omega arith)
-settled-alike (x ∷ xs) (y ∷ ys) (o ∷ os) e f h =
-    ap₂ _∷_ (h 0 o (omega arith)) (settled-alike xs ys os (omega arith) (omega arith) (λ j z l. h (suc j) z (omega arith)))
+-- lists with the same at each place
+same-places : (xs ys : List Interest) → length xs ≡ length ys → ((j : ℕ) → j < length xs → getD xs j noInterest ≡ getD ys j noInterest) → xs ≡ ys
+same-places [] [] e h = refl
+same-places [] (y ∷ ys) e h = absurd (omega arith)
+same-places (x ∷ xs) [] e h = absurd (omega arith)
+same-places (x ∷ xs) (y ∷ ys) e h = ap₂ _∷_ (h 0 (omega arith)) (same-places xs ys (omega arith) (λ j l. h (suc j) (omega arith)))
 
 -- what allocations take from the order at a place
-abbrev lossAt : List Allocation → ℕ → Interest
+abbrev pub lossAt : List Allocation → ℕ → Interest
 lossAt [] j = noInterest
 lossAt (a ∷ rows) j = together (onlyOf (a .visibility) (getD (a .allotment) j 0)) (lossAt rows j)
 
--- what they give it
-abbrev pub givenAt : List Allocation → ℕ → ℕ
-givenAt rows j = total (λ a. getD (a .allotment) j 0) rows
+-- the shares of a visibility of two interests together
+pub shares-both : (v : Visibility) (a b : Interest) → sharesOf v (together a b) ≡ sharesOf v a + sharesOf v b
+shares-both shown a b = refl
+shares-both hidden a b = refl
 
 module _ (os : List Order) where
   losses-long : (rows : List Allocation) → Aligned os rows → length (lossesOf os rows) ≡ length os
@@ -85,90 +71,28 @@ module _ (os : List Order) where
       (omega (arith, losses-long rows (a .1)))
       ∙ ap₂ together (List·getD-map v (r .allotment) j 0) (losses-at rows (a .1) j h)
 
--- each gives an order no more than it has of its visibility
-abbrev Seen : Order → ℕ → List Allocation → Type 0
-Seen o j rows = Every (λ a. getD (a .allotment) j 0 ≤ sharesOf (a .visibility) (interestOf o)) rows
-
--- a displayed order loses displayed shares alone, any other non-displayed ones
-shown-loss : (n j : ℕ) (rows : List Allocation) → Every (λ a. getD (a .allotment) j 0 ≤ sharesOf (a .visibility) (interest n 0)) rows
-    → lossAt rows j .displayed ≡ givenAt rows j
-shown-loss n j [] s = refl
-shown-loss n j (a ∷ rows) s = go (a .visibility) (s .0) (shown-loss n j rows (s .1))
-  where
-    g : ℕ
-    g = getD (a .allotment) j 0
-
-    go : (v : Visibility) → g ≤ sharesOf v (interest n 0) → lossAt rows j .displayed ≡ givenAt rows j
-        → onlyOf v g .displayed + lossAt rows j .displayed ≡ g + givenAt rows j
-    go shown l r = ap (λ m. g + m) r
-    go hidden l r = omega arith
-
-hidden-loss : (n j : ℕ) (rows : List Allocation) → Every (λ a. getD (a .allotment) j 0 ≤ sharesOf (a .visibility) (interest 0 n)) rows
-    → lossAt rows j .nonDisplayed ≡ givenAt rows j
-hidden-loss n j [] s = refl
-hidden-loss n j (a ∷ rows) s = go (a .visibility) (s .0) (hidden-loss n j rows (s .1))
-  where
-    g : ℕ
-    g = getD (a .allotment) j 0
-
-    go : (v : Visibility) → g ≤ sharesOf v (interest 0 n) → lossAt rows j .nonDisplayed ≡ givenAt rows j
-        → onlyOf v g .nonDisplayed + lossAt rows j .nonDisplayed ≡ g + givenAt rows j
-    go shown l r = omega arith
-    go hidden l r = ap (λ m. g + m) r
-
--- so that a number for each order says what it loses
-loss-is : (o : Order) (j : ℕ) (rows : List Allocation) → Seen o j rows → settled (lossAt rows j) o ≡ settled (interest (givenAt rows j) (givenAt rows j)) o
-unfolding settled withInterest
-loss-is o j rows s = go (o .kind) refl s
-  where
-    n : ℕ
-    n = givenAt rows j
-
-    go : (k : Kind) → o .kind ≡ k → Every (λ a. getD (a .allotment) j 0 ≤ sharesOf (a .visibility) (interestBy k (sizeOf o))) rows
-        → settled (lossAt rows j) o ≡ settled (interest n n) o
-    go Displayed e w = rw (e, shown-loss (sizeOf o) j rows w)
-    go NonDisplayed e w = rw (e, hidden-loss (sizeOf o) j rows w)
-    go (MinimumQuantity m) e w = rw (e, hidden-loss (sizeOf o) j rows w)
-
--- what holds of each part and its number holds at a place
-each-at : {P : Part → ℕ → Type 0} {ps : List Part} {ns : List ℕ} → Each P ps ns → (j : ℕ) (p : Part) → j < length ps → P (getD ps j p) (getD ns j 0)
-each-at Each.none j p h = absurd (omega arith)
-each-at (Each.more x e) zero p h = x
-each-at (Each.more x e) (suc j) p h = each-at e j p (omega arith)
-
-module _ (lot : ℕ) (hasLot : 0 < lot) (alg : Algorithm) (t : Taker) (os : List Order) (s : OrdersSound os) where
+module _ (lot : ℕ) (alg : Algorithm) (t : Taker) (os : List Order) where
   aligned-along : (cs : List Cell) (left : ℕ) → Aligned os (along lot alg t os cs left)
   unfolding along
   aligned-along [] left = tt
   aligned-along (c ∷ cs) left =
       (rw (allotted lot alg t os (c .0) (c .1) left, length-map, length-map), aligned-along cs (left - used (allocationAt lot alg t os (c .0) (c .1) left)))
 
-  seen-along : (j : ℕ) (z : Order) → j < length os → (cs : List Cell) (left : ℕ) → Seen (getD os j z) j (along lot alg t os cs left)
-  unfolding along allocationAt
-  seen-along j z h [] left = tt
-  seen-along j z h (c ∷ cs) left =
-      let g = groupOf lot alg (c .1) in
-      let part = partOf t (c .0) g in
-      let o = getD os j z in
-      let e = each-at (allotment-filled lot hasLot t os (s .rise) (s .setters) (c .0) left alg (c .1) .fits) j (part z) (omega (arith, length-map os part)) in (
-        omega (arith, ap (λ (p : Part). p .size) (List·getD-map part os j z), part-size t (c .0) g o, pick-least (stands t (c .0) g o) (sharesOf (g .visibility) (interestOf o))),
-        seen-along j z h cs (left - used (allocationAt lot alg t os (c .0) (c .1) left)),
-      )
-
-  -- the orders lose what the allocations give them
-  pub losses-are : (cs : List Cell) (left : ℕ) (gots : List ℕ) → length os ≤ length gots
-      → ((j : ℕ) → j < length os → givenAt (along lot alg t os cs left) j ≡ getD gots j 0)
-      → zipWith settled (lossesOf os (along lot alg t os cs left)) os ≡ zipWith settled (lossesIn (length os) gots gots) os
-  losses-are cs left gots l e =
+  -- the orders lose what the allocations give them of each visibility
+  pub losses-are : (cs : List Cell) (left : ℕ) (ss hs : List ℕ) → length os ≤ length ss → length os ≤ length hs
+      → ((j : ℕ) → j < length os → lossAt (along lot alg t os cs left) j ≡ interest (getD ss j 0) (getD hs j 0))
+      → lossesOf os (along lot alg t os cs left) ≡ lossesIn (length os) ss hs
+  losses-are cs left ss hs l m e =
       let rows = along lot alg t os cs left in
       let a = aligned-along cs left in
-      let front = take (length os) gots in
-      let n = length-take-le (length os) gots l in
-      settled-alike (lossesOf os rows) (lossesIn (length os) gots gots) os (losses-long os rows a) (length-zip interest front front refl ∙ n)
-      (λ j z h.
-      let o = getD os j z in
-      ap (λ x. settled x o) (losses-at os rows a j h)
-      ∙ loss-is o j rows (seen-along j z h cs left)
-      ∙ ap (λ x. settled x o)
-      (sym (get-zip interest front front j 0 0 noInterest (omega (arith, n)) (omega (arith, n))
-      ∙ ap₂ interest (getD-take (length os) gots j 0 h ∙ sym (e j h)) (getD-take (length os) gots j 0 h ∙ sym (e j h)))))
+      let x = length-take-le (length os) ss l in
+      let y = length-take-le (length os) hs m in
+      let long = losses-long os rows a in
+      same-places (lossesOf os rows) (lossesIn (length os) ss hs)
+      (long ∙ sym (length-zip interest (take (length os) ss) (take (length os) hs) (x ∙ sym y) ∙ y))
+      (λ j h.
+      let k : j < length os = omega (arith, long) in
+      losses-at os rows a j k
+      ∙ e j k
+      ∙ sym (get-zip interest (take (length os) ss) (take (length os) hs) j 0 0 noInterest (omega (arith, x)) (omega (arith, y))
+      ∙ ap₂ interest (getD-take (length os) ss j 0 k) (getD-take (length os) hs j 0 k)))

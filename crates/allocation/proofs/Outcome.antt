@@ -1,7 +1,7 @@
 -- The way through the keys that an incoming order needs, in their order, is the definition's: its executions, the shares left, and what each
 -- order loses.
 use Prim.Native.Nat.{ℕ, _+_, _≤_, _<_}
-use mathlib.Core.Path.{_≡_, refl, sym, ap, _∙_}
+use mathlib.Core.Path.{_≡_, refl, sym, ap, ap₂, _∙_}
 use mathlib.Core.Bool.{Bool, true, false, not, _&&_, true≢false}
 use mathlib.Core.List.{List, [], _∷_, map, List·Memᴰ}
 use native.Mathlib.Omega.{arith}
@@ -9,7 +9,7 @@ use native.Mathlib.Decide.{decLe}
 use lib.Dec.{eqb}
 use lib.ListN.{length, getD}
 use borrow.Author.Tests.{eqb-true, eq-eqb}
-use Rattle.units.specs.Lists.{filter, consIf, orZero, sum, total, zipWith}
+use Rattle.units.specs.Lists.{filter, consIf, orZero, sum, total}
 use Rattle.units.proofs.Members.{Every, every-member, every-weaken}
 use Rattle.ordering.specs.Sorted.{sorted, Rising}
 use Rattle.ordering.proofs.Order.{sorted-every, sorted-perm, rising-sorted}
@@ -18,7 +18,7 @@ use Rattle.ordering.proofs.Filters.{filter-sorted}
 use Rattle.ordering.proofs.Ranks.{rank-stays}
 use Rattle.orders.specs.declared.order.Order.{Order}
 use Rattle.orders.specs.declared.order.Taker.{Taker}
-use Rattle.orders.specs.Order.{settled}
+use Rattle.orders.specs.Order.{Visibility, shown, hidden, interest}
 use Rattle.orders.specs.Losses.{lossesIn}
 use Rattle.book.proofs.Soundness.{OrdersSound}
 use Rattle.matching.specs.declared.Algorithm.{Algorithm}
@@ -30,6 +30,7 @@ use Rattle.parts.specs.Parts.{rankOn, keysFrom}
 use Rattle.parts.specs.Narrowed.{minimumParagraph, ofRank, freeShares, Narrowed}
 use Rattle.parts.specs.Arranged.{Arranged}
 use Rattle.allocation.specs.Walk.{Walks, executionsFrom, gotAt}
+use Rattle.allocation.specs.Credit.{seen}
 use Rattle.allocation.specs.Ready.{Ready}
 use Rattle.allocation.proofs.Rows.{row-rising}
 use Rattle.allocation.proofs.Cells.{ofGroup, number-below, Beside, cell-row}
@@ -75,7 +76,7 @@ module _ (lot : ℕ) (hasLot : 0 < lot) (alg : Algorithm) (i : Incoming) (at : �
 
   -- the keys of a cell rise as they stand
   cell-rises : (c : Cell) → Fine t c → Rising 0 (filter (ofGroup (numberOf (t .side) c)) all)
-  cell-rises c f = row-rising at (c .0) (numberOf (t .side) c) size (cell-row lot alg i at (c .0) (f .0) (f .1) (c .1) 0 os b (s .each) (omega arith))
+  cell-rises c f = row-rising alg at (c .0) (numberOf (t .side) c) size (cell-row lot alg i at (c .0) (f .0) (f .1) (c .1) 0 os b (s .each) (omega arith))
 
   abbrev HeldIn : Cell → List ℕ → List ℕ → ℕ → Type 0
   HeldIn = Held lot hasLot alg i at os s few b
@@ -143,7 +144,7 @@ module _ (lot : ℕ) (hasLot : 0 < lot) (alg : Algorithm) (i : Incoming) (at : �
             omega (arith, free-filter alg rank all, ap (total (free alg)) e, same-total (free alg) (sorted-perm q)) in
             held-best c fine gets rank l (walk-enough lot hasLot alg t at os s few b w ready enough)
 
-    agreed : Agree at os (along lot alg t os (cells lot alg i os (s .each)) size) keys gets
+    agreed : Agree alg at os (along lot alg t os (cells lot alg i os (s .each)) size) keys gets
     agreed =
         walk-agrees lot hasLot alg i at os s few b (cells lot alg i os (s .each)) (cells-fine lot alg i os (s .each)) (cells-ascend lot alg i os (s .each))
         keys gets size w (omega arith) within held
@@ -160,8 +161,10 @@ module _ (lot : ℕ) (hasLot : 0 < lot) (alg : Algorithm) (i : Incoming) (at : �
     pub walk-uses : total used (allocations lot alg i os) ≡ sum gets
     walk-uses = rw rows (agreed .uses)
 
-    -- and each order loses what its parts got
-    pub walk-losses : (gots : List ℕ) → length os ≤ length gots → ((j : ℕ) → j < length os → getD gots j 0 ≡ gotAt j keys gets)
-        → zipWith settled (lossesOf os (allocations lot alg i os)) os ≡ zipWith settled (lossesIn (length os) gots gots) os
-    walk-losses gots l e =
-        rw rows (losses-are lot hasLot alg t os s (cells lot alg i os (s .each)) size gots l (λ j h. agreed .gives j h ∙ sym (e j h)))
+    -- and each order loses of each visibility what its parts of it got
+    pub walk-losses : (ss hs : List ℕ) → length os ≤ length ss → length os ≤ length hs
+        → ((v : Visibility) (j : ℕ) → j < length os → getD (seen v ss hs) j 0 ≡ gotAt alg v j keys gets)
+        → lossesOf os (allocations lot alg i os) ≡ lossesIn (length os) ss hs
+    walk-losses ss hs l m e =
+        rw rows (losses-are lot alg t os (cells lot alg i os (s .each)) size ss hs l m
+        (λ j h. ap₂ interest (agreed .gives shown j h ∙ sym (e shown j h)) (agreed .gives hidden j h ∙ sym (e hidden j h))))

@@ -1,6 +1,6 @@
 -- What a paragraph allots at a price, beside all orders of a book, and what the parts of its group get, beside their keys: the same.
 use Prim.Native.Nat.{ℕ, zero, suc, _+_, _<_}
-use mathlib.Core.Path.{_≡_, refl, sym, ap, ap₂, _∙_}
+use mathlib.Core.Path.{_≡_, refl, ap, ap₂}
 use mathlib.Core.List.{List, [], _∷_, map}
 use native.Mathlib.Omega.{arith}
 use native.Mathlib.Nat.{zero-add}
@@ -13,14 +13,17 @@ use Rattle.ordering.specs.Sorted.{Rising}
 use Rattle.sharing.specs.Rank.{Part}
 use Rattle.sharing.proofs.Thin.{Thin}
 use Rattle.orders.specs.declared.order.Order.{Order}
-use Rattle.orders.specs.Order.{priceOf}
+use Rattle.orders.specs.Order.{Visibility, sharesOf, onlyOf, priceOf}
+use Rattle.matching.specs.declared.Algorithm.{Algorithm}
 use Rattle.matching.specs.Take.{executionsBy}
 use Rattle.parts.specs.Key.{groupIn, paragraphIn, placeIn}
+use Rattle.parts.specs.Visible.{visibleBy}
 use Rattle.parts.specs.Execution.{executionIn}
 use Rattle.allocation.specs.Walk.{partIn, executionsFrom, gotAt}
 use Rattle.allocation.proofs.LeftOut.{Idle}
+use Rattle.allocation.proofs.Gets.{only-within}
 
-module _ (at : ℕ → Order) (price group bound : ℕ) where
+module _ (alg : Algorithm) (at : ℕ → Order) (price group bound : ℕ) where
   -- Beside orders, the first at a place: their parts in a group, of which those that can get shares have keys.
   pub data Row : ℕ → List Order → List Part → List ℕ → Type 0 where
     none : (p : ℕ) → Row p [] [] []
@@ -37,12 +40,12 @@ module _ (at : ℕ → Order) (price group bound : ℕ) where
   row-thin (Row.drop z r) = Thin.drop z (row-thin r)
 
   -- the places of the keys are no lower than the first
-  earlier : {p : ℕ} {os : List Order} {parts : List Part} {keys : List ℕ} → Row p os parts keys → (j : ℕ) → j < p → (ns : List ℕ) → gotAt j keys ns ≡ 0
-  earlier (Row.none p) j h ns = refl
-  earlier (Row.keep a e k g q r) j h [] = refl
-  earlier (Row.keep {p = p} {key = key} a e k g q r) j h (n ∷ ns) =
-      rw (ne-eqb (placeIn key) j (λ z. omega arith), zero-add) (earlier r j (omega arith) ns)
-  earlier (Row.drop z r) j h ns = earlier r j (omega arith) ns
+  earlier : {p : ℕ} {os : List Order} {parts : List Part} {keys : List ℕ} → Row p os parts keys → (v : Visibility) (j : ℕ) → j < p → (ns : List ℕ) → gotAt alg v j keys ns ≡ 0
+  earlier (Row.none p) v j h ns = refl
+  earlier (Row.keep a e k g q r) v j h [] = refl
+  earlier (Row.keep {p = p} {key = key} a e k g q r) v j h (n ∷ ns) =
+      rw (ne-eqb (placeIn key) j (λ z. omega arith), zero-add) (earlier r v j (omega arith) ns)
+  earlier (Row.drop z r) v j h ns = earlier r v j (omega arith) ns
 
   -- the keys rise
   row-from : {p : ℕ} {os : List Order} {parts : List Part} {keys : List ℕ} → Row p os parts keys → (m : ℕ) → groupIn m ≡ group → placeIn m < p → Rising m keys
@@ -70,19 +73,20 @@ module _ (at : ℕ → Order) (price group bound : ℕ) where
     row-sum (Row.keep {key = key} a e k g q r) z = rw q (ap (λ n. f (partIn at key) + n) (row-sum r (z .1)))
     row-sum (Row.drop i r) z = rw (z .0 i, zero-add) (row-sum r (z .1))
 
-    -- each record gets the same
-    pub row-got : {p : ℕ} {os : List Order} {parts : List Part} {keys : List ℕ} → Row p os parts keys → Given parts → (j : ℕ) → j < length os
-        → getD (map f parts) j 0 ≡ gotAt (p + j) keys (gets keys)
-    row-got (Row.none p) z j h = absurd (omega arith)
-    row-got (Row.keep {p = p} {key = key} {keys = keys} a e k g q r) z zero h =
-        rw (eq-eqb (placeIn key) (p + 0) (omega arith), earlier r (p + 0) (omega arith) (gets keys), q) (omega arith)
-    row-got (Row.keep {p = p} {key = key} {keys = keys} a e k g q r) z (suc j) h =
+    -- each record gets the same, of the group's visibility
+    pub row-got : {p : ℕ} {os : List Order} {parts : List Part} {keys : List ℕ} → Row p os parts keys → Given parts → (v : Visibility) (j : ℕ) → j < length os
+        → sharesOf v (onlyOf (visibleBy alg (paragraphIn group)) (getD (map f parts) j 0)) ≡ gotAt alg v (p + j) keys (gets keys)
+    row-got (Row.none p) z v j h = absurd (omega arith)
+    row-got (Row.keep {p = p} {key = key} {keys = keys} a e k g q r) z v zero h =
+        rw (eq-eqb (placeIn key) (p + 0) (omega arith), earlier r v (p + 0) (omega arith) (gets keys), q, g) (omega arith)
+    row-got (Row.keep {p = p} {key = key} {keys = keys} a e k g q r) z v (suc j) h =
         let s : p + suc j ≡ suc p + j = omega arith in
-        rw (ne-eqb (placeIn key) (p + suc j) (λ y. omega arith), zero-add, s) (row-got r (z .1) j (omega arith))
-    row-got (Row.drop {p = p} {keys = keys} i r) z zero h = z .0 i ∙ sym (earlier r (p + 0) (omega arith) (gets keys))
-    row-got (Row.drop {p = p} i r) z (suc j) h =
+        rw (ne-eqb (placeIn key) (p + suc j) (λ y. omega arith), zero-add, s) (row-got r (z .1) v j (omega arith))
+    row-got (Row.drop {p = p} {keys = keys} i r) z v zero h =
+        rw (z .0 i) (omega (arith, only-within v (visibleBy alg (paragraphIn group)) 0, earlier r v (p + 0) (omega arith) (gets keys)))
+    row-got (Row.drop {p = p} i r) z v (suc j) h =
         let s : p + suc j ≡ suc p + j = omega arith in
-        rw s (row-got r (z .1) j (omega arith))
+        rw s (row-got r (z .1) v j (omega arith))
 
     -- the executions are the same
     pub row-executions : {p : ℕ} {os : List Order} {parts : List Part} {keys : List ℕ} → Row p os parts keys → Given parts

@@ -1,12 +1,12 @@
 -- Keys of one group: the parts that they stand for are among those of the definition's group.
-use Prim.Native.Nat.{ℕ, zero, suc, _+_, _*_, _≤_, _<_}
-use mathlib.Core.Path.{_≡_, refl, sym, ap, _∙_}
-use mathlib.Core.Bool.{true, _&&_}
+use Prim.Native.Nat.{ℕ, zero, suc, _+_, _-_, _*_, _≤_, _<_}
+use mathlib.Core.Path.{_≡_, refl, sym, ap, ap₂, _∙_}
+use mathlib.Core.Bool.{true}
 use mathlib.Core.List.{List, [], _∷_, map, List·Memᴰ, List·Memᴰ·head, List·Memᴰ·tail, Memᴰ·map, Memᴰ·of-map, map-map}
 use native.Mathlib.Omega.{arith}
 use native.Mathlib.Nat.{zero-add}
 use native.Mathlib.Decide.{decLt}
-use lib.Dec.{eqb, ltb}
+use lib.Dec.{ltb}
 use lib.ListN.{length}
 use Rattle.units.specs.Lists.{total}
 use Rattle.units.proofs.Totals.{total-map}
@@ -18,24 +18,26 @@ use Rattle.sharing.proofs.Filled.{Filled}
 use Rattle.sharing.proofs.Methods.{by-filled}
 use Rattle.orders.specs.declared.order.Order.{Order}
 use Rattle.orders.specs.declared.order.Taker.{Taker}
-use Rattle.orders.specs.Order.{priceOf, sizeOf}
-use Rattle.orders.specs.Trading.{isOppositeOf}
+use Rattle.orders.specs.declared.order.Kind.{Kind}
+use Rattle.orders.specs.declared.order.Kind.the-variants.{Displayed, NonDisplayed, MinimumQuantity, Reserve}
+use Rattle.orders.specs.Order.{Visibility, shown, hidden, sharesOf, interestBy, interestOf, isMinimumQuantity, minimumOf, priceOf, sizeOf}
 use Rattle.record.proofs.Orders.{OrderSound, OrderFacts, order-facts}
 use Rattle.book.specs.Sound.{rising}
 use Rattle.book.proofs.Soundness.{OrdersSound}
 use Rattle.matching.specs.declared.Algorithm.{Algorithm}
 use Rattle.matching.specs.declared.Paragraph.{Paragraph}
-use Rattle.matching.specs.Paragraph.{groupOf, inGroup, partOf, methodOf}
+use Rattle.matching.specs.Paragraph.{groupOf, partOf, methodOf}
 use Rattle.matching.proofs.Parts.{stands, part-in}
 use Rattle.matching.proofs.Groups.{one-setter, hasNoMinimum, lots-no-minimum, no-minimum}
 use Rattle.matching.proofs.Entries.{orders-above}
 use Rattle.parts.specs.Key.{groupIn, paragraphIn, placeIn, sharesIn}
 use Rattle.parts.specs.Parts.{rankOn, paragraphFor, partKey}
-use Rattle.parts.proofs.Paragraphs.{all-stand, for-numbered}
+use Rattle.parts.specs.Visible.{visibleBy, visibilityIn}
+use Rattle.parts.proofs.Paragraphs.{for-numbered}
 use Rattle.allocation.specs.Walk.{paragraphOf, partIn, sharedBy}
 use Rattle.allocation.specs.Ready.{Stands, Ready, Ascending}
 use Rattle.allocation.proofs.Whole.{filled-whole}
-use Rattle.allocation.proofs.Cells.{Beside, part-group, part-shares, part-stands, rank-same}
+use Rattle.allocation.proofs.Cells.{Beside, part-group, part-shares, part-number, part-visible, part-inside, part-stands, rank-same}
 
 -- the order at a place of the book is one of its orders, and sound
 beside-member : (at : ℕ → Order) (p : ℕ) (os : List Order) → Beside at p os → (k : ℕ) → k < length os → List·Memᴰ (at (p + k)) os
@@ -77,48 +79,81 @@ module _ (lot : ℕ) (alg : Algorithm) (t : Taker) (at : ℕ → Order) (os : Li
     pub key-facts : OrderFacts (orderOf k)
     key-facts = order-facts (orderOf k) (every-member OrderSound os (s .each) (orderOf k) key-member)
 
-    -- a part has all the shares of its order
-    pub key-size : sharesIn k ≡ sizeOf (orderOf k)
-    key-size = ap sharesIn (w .is) ∙ part-shares lot alg (t .side) (placeIn k) low (orderOf k) key-facts
+    abbrev v : Visibility
+    v = w .visibility
+
+    abbrev shares : ℕ
+    shares = sharesOf v (interestOf (orderOf k))
+
+    -- a part has all the shares of its order that are of its visibility
+    pub key-size : sharesIn k ≡ shares
+    key-size = ap sharesIn (w .is) ∙ part-shares lot alg (t .side) v (placeIn k) low (orderOf k) key-facts
 
     -- its group: the price and the paragraph
-    group-is : groupIn k ≡ 8 * rankOn (t .side) (priceOf (orderOf k)) + paragraphFor lot alg (orderOf k .kind) (sizeOf (orderOf k))
-    group-is = ap groupIn (w .is) ∙ part-group lot alg (t .side) (placeIn k) low (orderOf k) key-facts
+    group-is : groupIn k ≡ 8 * rankOn (t .side) (priceOf (orderOf k)) + paragraphFor lot alg v (isMinimumQuantity (orderOf k .kind)) shares
+    group-is = ap groupIn (w .is) ∙ part-group lot alg (t .side) v (placeIn k) low (orderOf k) key-facts
 
-    -- its paragraph is that of its order
-    pub key-paragraph : paragraphIn (groupIn k) ≡ paragraphFor lot alg (orderOf k .kind) (sizeOf (orderOf k))
-    key-paragraph = let l = for-numbered lot alg (orderOf k .kind) (sizeOf (orderOf k)) .most in omega (arith, group-is)
+    -- its paragraph is that of its shares
+    pub key-paragraph : paragraphIn (groupIn k) ≡ paragraphFor lot alg v (isMinimumQuantity (orderOf k .kind)) shares
+    key-paragraph = ap (λ n. paragraphIn (groupIn n)) (w .is) ∙ part-number lot alg (t .side) v (placeIn k) low (orderOf k) key-facts
+
+    -- its visibility can be read from it
+    key-visible : visibilityIn alg k ≡ v
+    key-visible = ap (visibilityIn alg) (w .is) ∙ part-visible lot alg (t .side) v (placeIn k) low (orderOf k) key-facts
 
     pub key-stands : stands t (priceOf (orderOf k)) (groupOf lot alg (paragraphOf (groupIn k))) (orderOf k) ≡ true
     key-stands =
         ap (λ n. stands t (priceOf (orderOf k)) (groupOf lot alg (paragraphOf (groupIn n))) (orderOf k)) (w .is)
-        ∙ part-stands lot alg t (placeIn k) low (orderOf k) key-facts (w .opposite)
+        ∙ part-stands lot alg t v (placeIn k) low (orderOf k) key-facts (w .opposite) (w .some)
+
+    -- its group is of its visibility
+    own-group : v ≡ groupOf lot alg (paragraphOf (groupIn k)) .visibility
+    own-group =
+        part-inside lot alg (t .side) v (placeIn k) low (orderOf k) key-facts (w .some) .0
+        ∙ ap (λ n. groupOf lot alg (paragraphOf (groupIn n)) .visibility) (sym (w .is))
 
     -- it is what of the order stands in the definition's group
     part-is : partOf t (priceOf (orderOf k)) (groupOf lot alg (paragraphOf (groupIn k))) (orderOf k) ≡ partIn at k
     part-is =
-        let g = paragraphOf (groupIn k) in
-        let c = and-true (isOppositeOf t (orderOf k) && eqb (priceOf (orderOf k)) (priceOf (orderOf k))) (inGroup (groupOf lot alg g) (orderOf k)) key-stands in
-        part-in t (priceOf (orderOf k)) (groupOf lot alg g) (orderOf k) key-stands ∙ rw (key-size, all-stand lot alg g (orderOf k) (c .1))
+        part-in t (priceOf (orderOf k)) (groupOf lot alg (paragraphOf (groupIn k))) (orderOf k) key-stands
+        ∙ rw (key-size ∙ ap (λ x. sharesOf x (interestOf (orderOf k))) own-group)
+
+    -- its minimum is within it
+    key-minimum : minimumOf (orderOf k .kind) ≤ shares
+    key-minimum = go (orderOf k .kind) v (key-facts .minimum-most) (w .some)
+      where
+        go : (kind : Kind) (x : Visibility) → minimumOf kind ≤ sizeOf (orderOf k) → 0 < sharesOf x (interestBy kind (sizeOf (orderOf k)))
+            → minimumOf kind ≤ sharesOf x (interestBy kind (sizeOf (orderOf k)))
+        go Displayed x m s = omega arith
+        go NonDisplayed x m s = omega arith
+        go (MinimumQuantity n) shown m s = absurd (omega arith)
+        go (MinimumQuantity n) hidden m s = m
+        go (Reserve h r) x m s = omega arith
 
   -- keys of one group have one price
   same-price : (k q : ℕ) → Key k → Key q → groupIn k ≡ groupIn q → priceOf (orderOf k) ≡ priceOf (orderOf q)
   same-price k q w v e =
-      let x = for-numbered lot alg (orderOf k .kind) (sizeOf (orderOf k)) .most in
-      let y = for-numbered lot alg (orderOf q .kind) (sizeOf (orderOf q)) .most in
+      let x = for-numbered lot alg (w .visibility) (isMinimumQuantity (orderOf k .kind)) (shares k w) .most in
+      let y = for-numbered lot alg (v .visibility) (isMinimumQuantity (orderOf q .kind)) (shares q v) .most in
       rank-same (t .side) (priceOf (orderOf k)) (priceOf (orderOf q)) (key-facts k w .price-most) (key-facts q v .price-most)
       (omega (arith, group-is k w, group-is q v))
 
-  -- of two the lower has the lower number
-  number-rise : (k q : ℕ) → Key k → Key q → groupIn k ≡ groupIn q → k < q → orderOf k .number < orderOf q .number
-  number-rise k q w v e h = go (decLt (placeIn k) (placeIn q))
+  -- of two the lower is of an earlier record
+  place-rise : (k q : ℕ) → Key k → Key q → groupIn k ≡ groupIn q → k < q → placeIn k < placeIn q
+  place-rise k q w v e h = go (decLt (placeIn k) (placeIn q))
     where
-      go : Dec (placeIn k < placeIn q) → orderOf k .number < orderOf q .number
-      go (yes l) = rw (zero-add (placeIn k), zero-add (placeIn q)) at (beside-rise at 0 0 os b (s .rise) (placeIn k) (placeIn q) l (v .within))
+      go : Dec (placeIn k < placeIn q) → placeIn k < placeIn q
+      go (yes l) = l
       go (no l) =
           let p : placeIn k ≡ placeIn q = omega arith in
-          let same : k ≡ q = w .is ∙ ap (λ n. partKey lot alg (t .side) n (at n)) p ∙ sym (v .is) in
+          let u : w .visibility ≡ v .visibility = sym (key-visible k w) ∙ ap (λ g. visibleBy alg (paragraphIn g)) e ∙ key-visible q v in
+          let same : k ≡ q = w .is ∙ ap₂ (λ x n. partKey lot alg (t .side) x n (at n)) u p ∙ sym (v .is) in
           absurd (omega arith)
+
+  -- and so has the lower number
+  number-rise : (k q : ℕ) → Key k → Key q → groupIn k ≡ groupIn q → k < q → orderOf k .number < orderOf q .number
+  number-rise k q w v e h =
+      rw (zero-add (placeIn k), zero-add (placeIn q)) at (beside-rise at 0 0 os b (s .rise) (placeIn k) (placeIn q) (place-rise k q w v e h) (v .within))
 
   -- Some keys of one group.
   module _ (first : ℕ) (keys : List ℕ) (r : Ready at (length os) lot alg (t .side) (first ∷ keys)) (e : Every (λ k. groupIn k ≡ groupIn first) keys) where
@@ -151,6 +186,19 @@ module _ (lot : ℕ) (alg : Algorithm) (t : Taker) (at : ℕ → Order) (os : Li
     member : (p : Part) → List·Memᴰ p parts → List·Memᴰ p ps
     member p m = let x = Memᴰ·of-map (partIn at) all m in rw (sym (x .2)) (every-member (λ k. List·Memᴰ (partIn at k) ps) all among (x .0) (x .1))
 
+    -- they are no more than the orders
+    pub stretch-few : length all ≤ length os
+    stretch-few = omega (arith, go 0 all (r .each) (refl, e) (r .ascend) (every-weaken (λ k w. omega arith) all (r .each)))
+      where
+        go : (m : ℕ) (ks : List ℕ) → Every Key ks → Every (λ k. groupIn k ≡ groupIn first) ks → Ascending ks → Every (λ k. m ≤ placeIn k) ks
+            → length ks ≤ length os - m
+        go m [] w h a n = omega arith
+        go m (k ∷ ks) w h a n =
+            let later : Every (λ q. suc (placeIn k) ≤ placeIn q) ks =
+            every-both {P = λ q. Key q × (groupIn q ≡ groupIn first)} {Q = λ q. k < q} (λ q x l. place-rise k q (w .0) (x .0) (h .0 ∙ sym (x .1)) l) ks
+            (every-both (λ q x y. (x, y)) ks (w .1) (h .1)) (a .0) in
+            omega (arith, go (suc (placeIn k)) ks (w .1) (h .1) (a .1) later, n .0, w .0 .within)
+
     -- their numbers rise
     pub stretch-rising : Rising 0 parts
     stretch-rising = go 0 all (r .each) (refl, e) (r .ascend) (every-weaken (λ k w. omega (arith, key-facts k w .number-least)) all (r .each))
@@ -180,7 +228,7 @@ module _ (lot : ℕ) (alg : Algorithm) (t : Taker) (at : ℕ → Order) (os : Li
       where
         go : (ks : List ℕ) → Every Key ks → Every (λ p. p .minimum ≤ p .size) (map (partIn at) ks)
         go [] w = tt
-        go (k ∷ ks) w = (omega (arith, key-size k (w .0), key-facts k (w .0) .minimum-most), go ks (w .1))
+        go (k ∷ ks) w = (omega (arith, key-size k (w .0), key-minimum k (w .0)), go ks (w .1))
 
     module _ (hasLot : 0 < lot) (left : ℕ) where
       -- what they get fills them as far as it goes

@@ -10,6 +10,7 @@ use Rattle.units.proofs.Members.{Every, every-member, every-weaken, every-both,
 use Rattle.units.proofs.Totals.{total-append, filter-append}
 use Rattle.orders.specs.declared.order.Order.{Order}
 use Rattle.orders.specs.declared.order.Side.{Side}
+use Rattle.orders.specs.Order.{Visibility, shown, hidden, sharesOf, noInterest, onlyOf}
 use Rattle.book.proofs.Soundness.{OrdersSound}
 use Rattle.matching.specs.declared.Algorithm.{Algorithm}
 use Rattle.matching.specs.declared.incoming.Incoming.{Incoming}
@@ -19,47 +20,52 @@ use Rattle.parts.specs.Parts.{keysFrom}
 use Rattle.allocation.specs.Walk.{Walks, sharedBy, executionsFrom, gotAt}
 use Rattle.allocation.proofs.Cells.{ofGroup, Beside}
 use Rattle.allocation.proofs.Groups.{Allots, cell-allots}
+use Rattle.allocation.proofs.Losses.{lossAt, shares-both}
 use Rattle.allocation.proofs.Along.{Cell, numberOf, Ascends, Fine, along}
 use Rattle.allocation.proofs.Gets.{executions-append, got-append, got-within, executions-none, sum-none}
 
 -- Allocations beside the orders of a book, and numbers beside keys, give the same.
-pub record Agree (at : ℕ → Order) (os : List Order) (rows : List Allocation) (keys gets : List ℕ) : Type 0 where
+pub record Agree (alg : Algorithm) (at : ℕ → Order) (os : List Order) (rows : List Allocation) (keys gets : List ℕ) : Type 0 where
   pub executes : executionsOf os rows ≡ executionsFrom at keys gets
   pub uses : total used rows ≡ sum gets
-  pub gives : (j : ℕ) → j < length os → total (λ a. getD (a .allotment) j 0) rows ≡ gotAt j keys gets
+  pub gives : (v : Visibility) (j : ℕ) → j < length os → sharesOf v (lossAt rows j) ≡ gotAt alg v j keys gets
 
-module _ (at : ℕ → Order) (os : List Order) where
-  agree-none : Agree at os [] [] []
+module _ (alg : Algorithm) (at : ℕ → Order) (os : List Order) where
+  agree-none : Agree alg at os [] [] []
   unfolding executionsOf
-  agree-none = record { executes = refl; uses = refl; gives = λ j h. refl }
+  agree-none = record { executes = refl; uses = refl; gives = λ v j h. nothing v }
+    where
+      nothing : (v : Visibility) → sharesOf v noInterest ≡ 0
+      nothing shown = refl
+      nothing hidden = refl
 
   -- one more, whose parts stand before the others
-  agree-more : {row : Allocation} {rows : List Allocation} (keys later gets more : List ℕ) {left : ℕ} → Allots at os keys gets left row
-      → Agree at os rows later more → Agree at os (row ∷ rows) (keys ++ later) (gets ++ more)
+  agree-more : {row : Allocation} {rows : List Allocation} (keys later gets more : List ℕ) {left : ℕ} → Allots alg at os keys gets left row
+      → Agree alg at os rows later more → Agree alg at os (row ∷ rows) (keys ++ later) (gets ++ more)
   unfolding executionsOf
-  agree-more keys later gets more a r = record {
+  agree-more {row} {rows} keys later gets more a r = record {
     executes =
         ap₂ _++_ (a .executes) (r .executes) ∙ sym (executions-append at keys later gets more (a .many));
     uses = omega (arith, a .uses, r .uses, total-append (λ n. n) gets more);
-    gives = λ j h. omega (arith, a .gives j h, r .gives j h, got-append j keys later gets more (a .many));
+    gives = λ v j h. omega (arith, shares-both v (onlyOf (row .visibility) (getD (row .allotment) j 0)) (lossAt rows j), a .gives v j h, r .gives v j h, got-append alg v j keys later gets more (a .many));
   }
 
   -- keys that get nothing may be put beside those of allocations that use up nothing
-  agree-zeros : {rows : List Allocation} → Agree at os rows [] [] → (keys : List ℕ) → Agree at os rows keys (map (λ k. 0) keys)
+  agree-zeros : {rows : List Allocation} → Agree alg at os rows [] [] → (keys : List ℕ) → Agree alg at os rows keys (map (λ k. 0) keys)
   agree-zeros r keys =
       let z = sum-none keys in
       record {
         executes = r .executes ∙ sym (executions-none at keys (map (λ k. 0) keys) z);
         uses = r .uses ∙ sym z;
-        gives = λ j h. omega (arith, r .gives j h, got-within j keys (map (λ k. 0) keys));
+        gives = λ v j h. omega (arith, r .gives v j h, got-within alg v j keys (map (λ k. 0) keys));
       }
 
   -- an allocation of nothing
-  allots-none : {row : Allocation} (keys gets : List ℕ) {left : ℕ} → Allots at os keys gets left row → sum gets ≡ 0 → Allots at os [] [] left row
+  allots-none : {row : Allocation} (keys gets : List ℕ) {left : ℕ} → Allots alg at os keys gets left row → sum gets ≡ 0 → Allots alg at os [] [] left row
   allots-none keys gets a z = record {
     executes = a .executes ∙ executions-none at keys gets z;
     uses = a .uses ∙ z;
-    gives = λ j h. omega (arith, a .gives j h, got-within j keys gets);
+    gives = λ v j h. omega (arith, a .gives v j h, got-within alg v j keys gets);
     many = refl;
     within = a .within;
   }
@@ -84,24 +90,24 @@ module _ (lot : ℕ) (hasLot : 0 < lot) (alg : Algorithm) (i : Incoming) (at : �
   abbrev rowsOf : List Cell → ℕ → List Allocation
   rowsOf cs left = along lot alg (i .taker) os cs left
 
-  allots : (c : Cell) → Fine (i .taker) c → (left : ℕ) → left ≤ i .size .0 → Allots at os (keysOf c) (sharedBy at lot alg (numberOf side c) (keysOf c) left) left (rowOf c left)
+  allots : (c : Cell) → Fine (i .taker) c → (left : ℕ) → left ≤ i .size .0 → Allots alg at os (keysOf c) (sharedBy at lot alg (numberOf side c) (keysOf c) left) left (rowOf c left)
   allots c f left l = cell-allots lot hasLot alg i at os s few b (c .0) (f .0) (f .1) (c .1) left l
 
   -- where no shares are left
-  pub nothing-left : (cs : List Cell) → Every (Fine (i .taker)) cs → Agree at os (rowsOf cs 0) [] []
+  pub nothing-left : (cs : List Cell) → Every (Fine (i .taker)) cs → Agree alg at os (rowsOf cs 0) [] []
   unfolding along
-  nothing-left [] f = agree-none at os
+  nothing-left [] f = agree-none alg at os
   nothing-left (c ∷ cs) f =
       let a = allots c (f .0) 0 (omega arith) in
       let z : used (rowOf c 0) ≡ 0 = omega (arith, a .within) in
-      let n = allots-none at os (keysOf c) (sharedBy at lot alg (numberOf side c) (keysOf c) 0) a (sym (a .uses) ∙ z) in
-      agree-more at os [] [] [] [] n (rw z (nothing-left cs (f .1)))
+      let n = allots-none alg at os (keysOf c) (sharedBy at lot alg (numberOf side c) (keysOf c) 0) a (sym (a .uses) ∙ z) in
+      agree-more alg at os [] [] [] [] n (rw z (nothing-left cs (f .1)))
 
   -- a cell without keys uses up nothing
-  empty : (c : Cell) → Fine (i .taker) c → (left : ℕ) → left ≤ i .size .0 → keysOf c ≡ [] → Allots at os [] [] left (rowOf c left)
+  empty : (c : Cell) → Fine (i .taker) c → (left : ℕ) → left ≤ i .size .0 → keysOf c ≡ [] → Allots alg at os [] [] left (rowOf c left)
   empty c f left l e =
       let a = rw e at (allots c f left l) in
-      allots-none at os [] (sharedBy at lot alg (numberOf side c) [] left) a (no-numbers (sharedBy at lot alg (numberOf side c) [] left) (a .many))
+      allots-none alg at os [] (sharedBy at lot alg (numberOf side c) [] left) a (no-numbers (sharedBy at lot alg (numberOf side c) [] left) (a .many))
     where
       no-numbers : (ns : List ℕ) → length ns ≡ 0 → sum ns ≡ 0
       no-numbers [] h = refl
@@ -147,19 +153,19 @@ module _ (lot : ℕ) (hasLot : 0 < lot) (alg : Algorithm) (i : Incoming) (at : �
   -- The way through the keys gives what the allocations along the cells give.
   abbrev pub Agrees : List Cell → Type 0
   Agrees cs = (keys gets : List ℕ) (left : ℕ) → Walks at lot alg keys left gets → left ≤ i .size .0 → Within cs keys
-      → ((c : Cell) → List·Memᴰ c cs → Held c keys gets left) → Agree at os (rowsOf cs left) keys gets
+      → ((c : Cell) → List·Memᴰ c cs → Held c keys gets left) → Agree alg at os (rowsOf cs left) keys gets
 
   -- one cell more
   walk-more : (c : Cell) (cs : List Cell) → Every (Fine (i .taker)) (c ∷ cs) → Ascends side (c ∷ cs) → Agrees cs → Agrees (c ∷ cs)
   unfolding along
-  walk-more c cs f a r _ _ _ (Walks.ended keys) l w h = agree-zeros at os (nothing-left (c ∷ cs) f) keys
+  walk-more c cs f a r _ _ _ (Walks.ended keys) l w h = agree-zeros alg at os (nothing-left (c ∷ cs) f) keys
   walk-more c cs f a r _ _ _ (Walks.none left) l w h = go (h c (List·Memᴰ·head refl))
     where
-      go : Held c [] [] left → Agree at os (rowsOf (c ∷ cs) left) [] []
+      go : Held c [] [] left → Agree alg at os (rowsOf (c ∷ cs) left) [] []
       go (Held.complete e) =
           let n = empty c (f .0) left l (sym e) in
           let z : left - used (rowOf c left) ≡ left = omega (arith, n .uses) in
-          agree-more at os [] [] [] [] n (rw z (r [] [] left (Walks.none left) l tt (λ d m. h d (List·Memᴰ·tail m))))
+          agree-more alg at os [] [] [] [] n (rw z (r [] [] left (Walks.none left) l tt (λ d m. h d (List·Memᴰ·tail m))))
       go (Held.beyond x e) = rw (sym e) (nothing-left (c ∷ cs) f)
   walk-more c cs f a r _ _ _ (Walks.next left key keys later gets e g v) l w h = go (w .0) (h c (List·Memᴰ·head refl))
     where
@@ -173,27 +179,27 @@ module _ (lot : ℕ) (hasLot : 0 < lot) (alg : Algorithm) (i : Incoming) (at : �
       among ks x y = every-both (λ k. not-first c cs) ks x y
 
       -- the first cell is the group's
-      first : groupIn key ≡ numberOf side c → keysOf c ≡ key ∷ keys → Agree at os (rowsOf (c ∷ cs) left) all (shared ++ gets)
+      first : groupIn key ≡ numberOf side c → keysOf c ≡ key ∷ keys → Agree alg at os (rowsOf (c ∷ cs) left) all (shared ++ gets)
       first q d =
-          let n : Allots at os (key ∷ keys) shared left (rowOf c left) = rw (q, sym d) (allots c (f .0) left l) in
+          let n : Allots alg at os (key ∷ keys) shared left (rowOf c left) = rw (q, sym d) (allots c (f .0) left l) in
           let later-all = every-weaken {P = λ k. groupIn key < groupIn k} {Q = λ k. numberOf side c < groupIn k} (λ k x. omega arith) later g in
-          agree-more at os (key ∷ keys) later shared gets n
+          agree-more alg at os (key ∷ keys) later shared gets n
           (rw (n .uses) (r later gets (left - sum shared) v (omega arith) (among later later-all (every-split _ keys later (w .1) .1))
           (λ x m. held-later x (groupIn key) (omega (arith, every-member (λ y. numberOf side c < numberOf side y) cs (a .0) x m)) (key ∷ keys) later shared gets left
           (refl, e) (h x (List·Memᴰ·tail m)))))
 
       -- it comes before, and has no keys
-      before : numberOf side c < groupIn key → Held c all (shared ++ gets) left → Agree at os (rowsOf (c ∷ cs) left) all (shared ++ gets)
+      before : numberOf side c < groupIn key → Held c all (shared ++ gets) left → Agree alg at os (rowsOf (c ∷ cs) left) all (shared ++ gets)
       before o (Held.beyond x y) = let z = x .0 in absurd (omega arith)
       before o (Held.complete q) =
           let each : Every (λ k. numberOf side c < groupIn k) all =
           (o, every-append (λ k. numberOf side c < groupIn k) keys later (every-weaken (λ k x. omega arith) keys e) (every-weaken (λ k x. omega arith) later g)) in
           let n = empty c (f .0) left l (sym q ∙ none-of (numberOf side c) all each) in
           let z : left - used (rowOf c left) ≡ left = omega (arith, n .uses) in
-          agree-more at os [] all [] (shared ++ gets) n
+          agree-more alg at os [] all [] (shared ++ gets) n
           (rw z (r all (shared ++ gets) left (Walks.next left key keys later gets e g v) l (among all each w) (λ x m. h x (List·Memᴰ·tail m))))
 
-      go : List·Memᴰ (groupIn key) (map (numberOf side) (c ∷ cs)) → Held c all (shared ++ gets) left → Agree at os (rowsOf (c ∷ cs) left) all (shared ++ gets)
+      go : List·Memᴰ (groupIn key) (map (numberOf side) (c ∷ cs)) → Held c all (shared ++ gets) left → Agree alg at os (rowsOf (c ∷ cs) left) all (shared ++ gets)
       go (List·Memᴰ·tail m) x = before (behind c cs (a .0) (groupIn key) m) x
       go (List·Memᴰ·head q) (Held.beyond x y) = let z = x .0 in absurd (omega arith)
       go (List·Memᴰ·head q) (Held.complete y) =
@@ -201,7 +207,7 @@ module _ (lot : ℕ) (hasLot : 0 < lot) (alg : Algorithm) (i : Incoming) (at : �
 
   pub walk-agrees : (cs : List Cell) → Every (Fine (i .taker)) cs → Ascends side cs → Agrees cs
   unfolding along
-  walk-agrees [] f a _ _ _ (Walks.ended keys) l w h = agree-zeros at os (nothing-left [] f) keys
-  walk-agrees [] f a _ _ _ (Walks.none left) l w h = agree-none at os
+  walk-agrees [] f a _ _ _ (Walks.ended keys) l w h = agree-zeros alg at os (nothing-left [] f) keys
+  walk-agrees [] f a _ _ _ (Walks.none left) l w h = agree-none alg at os
   walk-agrees [] f a _ _ _ (Walks.next left key keys later gets e g v) l w h = absurd (List·Memᴰ·not-nil (w .0))
   walk-agrees (c ∷ cs) f a keys gets left v l w h = walk-more c cs f a (walk-agrees cs (f .1) (a .1)) keys gets left v l w h

@@ -25,7 +25,7 @@ use Rattle.allocation.specs.Ready.{Ascending, Stands, Ready}
 use Rattle.allocation.specs.Sharing.{Book, Shared, Walked}
 use Rattle.allocation.proofs.Gets.{fills-none, executions-none, got-within, sum-none}
 use Rattle.allocation.proofs.Crediting.{credited-none, credited-append, room-after}
-use Rattle.allocation.proofs.Stretches.{key-facts, key-size}
+use Rattle.allocation.proofs.Stretches.{key-size, stretch-few}
 use Rattle.allocation.proofs.Enough.{ready-split}
 use Rattle.allocation.proofs.Dividing.{book-beside, shared-within, shared-length}
 use Rattle.allocation.proofs.Passing.{fill-walks}
@@ -59,7 +59,7 @@ module _ (s keys : List ℕ) (lot : ℕ) (alg : Algorithm) (t : Taker) (start : 
     pub got : List ℕ
     pub many : length got ≡ at
     pub within : at ≤ length keys
-    pub credited : Credited (take at keys) got start now
+    pub credited : Credited alg (take at keys) got start now
     pub room : Room (drop at keys) now
     pub parted : Parted keys at
     pub comes : (more : List ℕ) → Walks (orderAt s) lot alg (drop at keys) (leftIn now) more → Walks (orderAt s) lot alg keys (leftIn start) (got ++ more)
@@ -85,7 +85,7 @@ module _ (s keys : List ℕ) (lot : ℕ) (alg : Algorithm) (t : Taker) (start : 
 
     -- some keys more, which get these shares
     module _ {at : ℕ} {now : Ledger} (w : Way at now) (n : ℕ) (l : n ≤ length (drop at keys)) (gets : List ℕ) (many : length gets ≡ n)
-        (fits : sum gets ≤ leftIn now) (parts : Parted keys (at + n)) {then : Ledger} (c : Credited (take n (drop at keys)) gets now then)
+        (fits : sum gets ≤ leftIn now) (parts : Parted keys (at + n)) {then : Ledger} (c : Credited alg (take n (drop at keys)) gets now then)
         (walks : (more : List ℕ) → Walks (orderAt s) lot alg (drop n (drop at keys)) (leftIn now - sum gets) more
         → Walks (orderAt s) lot alg (drop at keys) (leftIn now) (gets ++ more)) where
       way-more : Way (at + n) then
@@ -123,7 +123,7 @@ module _ (s keys : List ℕ) (lot : ℕ) (alg : Algorithm) (t : Taker) (start : 
       front-total : sum (map sharesIn (take n (drop at keys))) ≡ total sharesIn (take n (drop at keys))
       front-total = total-map (λ x. x) sharesIn (take n (drop at keys))
 
-      pub way-fill : {then : Ledger} → Credited (take n (drop at keys)) (map sharesIn (take n (drop at keys))) now then → Way (at + n) then
+      pub way-fill : {then : Ledger} → Credited alg (take n (drop at keys)) (map sharesIn (take n (drop at keys))) now then → Way (at + n) then
       way-fill c =
           let xs = take n (drop at keys) in
           let ys = drop n (drop at keys) in
@@ -173,9 +173,16 @@ module _ (s keys : List ℕ) (lot : ℕ) (alg : Algorithm) (t : Taker) (start : 
         few = omega (arith, length-take-le (end - at) (drop at keys) slice-long, length-drop at keys, bk .few);
       }
 
+      -- it has no more keys than the book has orders
+      pub group-few : end - at ≤ length (ordersOf s)
+      group-few =
+          let r = rw slice-are at (ready-slice at (end - at)) in
+          let f = stretch-few lot alg t (orderAt s) (ordersOf s) os (sound-fits s (bk .isSound) .1) (book-beside s) first others r others-same in
+          omega (arith, f, sym (length-take-le (end - at) (drop at keys) slice-long), ap length slice-are)
+
       -- it gets what its paragraph gives it
       pub way-share : {now : Ledger} → Way at now → Shared slice (leftIn now) → {then : Ledger}
-          → Credited slice (sharedBy (orderAt s) lot alg (groupIn (getD slice 0 0)) slice (leftIn now)) now then → Way end then
+          → Credited alg slice (sharedBy (orderAt s) lot alg (groupIn (getD slice 0 0)) slice (leftIn now)) now then → Way end then
       way-share {now} w sh {then} c =
           let n : at + (end - at) ≡ end = omega (arith, e .some) in
           let shares = sharedBy (orderAt s) lot alg (groupIn (getD slice 0 0)) slice (leftIn now) in
@@ -204,7 +211,7 @@ module _ (s keys : List ℕ) (lot : ℕ) (alg : Algorithm) (t : Taker) (start : 
 
     -- the group behind whole ones has more than they leave
     pub next-more : {at : ℕ} {now : Ledger} → Way at now → {n : ℕ} (h : Whole (drop at keys) (leftIn now) n) {then : Ledger}
-        → Credited (take n (drop at keys)) (map sharesIn (take n (drop at keys))) now then → {end : ℕ} (e : Ends keys (at + n) end)
+        → Credited alg (take n (drop at keys)) (map sharesIn (take n (drop at keys))) now then → {end : ℕ} (e : Ends keys (at + n) end)
         → leftIn then < total sharesIn (take (end - (at + n)) (drop (at + n) keys))
     next-more {at} {now} w {n} h {then} c {end} e =
         let rest = drop at keys in
@@ -233,7 +240,7 @@ module _ (s keys : List ℕ) (lot : ℕ) (alg : Algorithm) (t : Taker) (start : 
     room-front : (xs ys : List ℕ) {l : Ledger} → Room (xs ++ ys) l → Room xs l
     room-front xs ys {l} r = record {
       fills = omega (arith, r .fills, length-append xs ys);
-      places = every-split (λ k. placeIn k < length (l .allotment)) xs ys (r .places) .0;
+      places = λ v. every-split (λ k. placeIn k < length (l .allotment v)) xs ys (r .places v) .0;
       bounded = r .bounded;
     }
 
@@ -248,7 +255,7 @@ module _ (s keys : List ℕ) (lot : ℕ) (alg : Algorithm) (t : Taker) (start : 
         omega (
           arith,
           key-size lot alg t (orderAt s) (ordersOf s) os f (book-beside s) k x,
-          key-facts lot alg t (orderAt s) (ordersOf s) os f (book-beside s) k x .size-least,
+          x .some,
         ))
         ks a
 
@@ -273,7 +280,7 @@ module _ (s keys : List ℕ) (lot : ℕ) (alg : Algorithm) (t : Taker) (start : 
           × Every (λ k. 0 < sharesIn k) (take (at + n - at) (drop at keys))
       fill-ready = rw front (room-slice w n, whole-is .fits, some-shares (take n (drop at keys)) (ready-slice at n .each))
 
-      module _ {then : Ledger} (c : Credited (take (at + n - at) (drop at keys)) (map sharesIn (take (at + n - at) (drop at keys))) now then) where
+      module _ {then : Ledger} (c : Credited alg (take (at + n - at) (drop at keys)) (map sharesIn (take (at + n - at) (drop at keys))) now then) where
         pub turn-filled : Way (at + n) then
         turn-filled = way-fill w whole-is (rw front at c)
 
@@ -294,7 +301,7 @@ module _ (s keys : List ℕ) (lot : ℕ) (alg : Algorithm) (t : Taker) (start : 
         credited = rw (take-append-drop at keys) at (credited-append (w .credited) (nothing (drop at keys)) (w .many ∙ sym (length-take-le at keys (w .within))));
       }
     where
-      nothing : (xs : List ℕ) → Credited xs (map (λ k. 0) xs) now now
+      nothing : (xs : List ℕ) → Credited alg xs (map (λ k. 0) xs) now now
       nothing xs =
           let n = sum-none xs in
           record {
@@ -302,9 +309,9 @@ module _ (s keys : List ℕ) (lot : ℕ) (alg : Algorithm) (t : Taker) (start : 
             count = rw (fills-none xs (map (λ k. 0) xs) n) (omega arith);
             fills = rw (fills-none xs (map (λ k. 0) xs) n) (sym (append-nil (take (now .progress .count) (now .fills))));
             executions = λ at. rw (executions-none at xs (map (λ k. 0) xs) n) (sym (append-nil (logged at now)));
-            allotment = λ i. omega (arith, got-within i xs (map (λ k. 0) xs));
+            allotment = λ v i. omega (arith, got-within alg v i xs (map (λ k. 0) xs));
             room = refl;
-            records = refl;
+            records = λ v. refl;
           }
 
   -- no key is left

@@ -1,12 +1,13 @@
 -- Worked values of a way through parts, computed by the checker, and ways, stretches and ledgers that meet their conditions, or don't.
-use Prim.Native.Nat.{ℕ, zero, suc, _+_, _≤_, _<_}
+use Prim.Native.Nat.{ℕ, zero, suc, _+_, _-_, _≤_, _<_}
 use mathlib.Core.Path.{_≡_, refl, sym, ap, subst}
 use mathlib.Core.Bool.{Bool, true, false, true≢false, false≢true}
 use mathlib.Core.List.{List, [], _∷_}
 use native.Mathlib.Omega.{arith}
+use native.Mathlib.Decide.{decLe}
 use borrow.Author.Tests.{ne-eqb}
 use lib.Dec.{eqb}
-use lib.ListN.{getD, take, drop}
+use lib.ListN.{length, getD, take, drop}
 use Rattle.units.specs.Lists.{all, flatMap, sameNumbers, total}
 use Rattle.units.proofs.Members.{Every}
 use Rattle.sharing.specs.declared.Rank.the-variants.{Time}
@@ -18,6 +19,7 @@ use Rattle.orders.specs.declared.order.Side.the-variants.{Buy, Sell}
 use Rattle.orders.specs.declared.order.Kind.{Kind}
 use Rattle.orders.specs.declared.order.Kind.the-variants.{Displayed, MinimumQuantity}
 use Rattle.orders.specs.declared.order.Order.{Order}
+use Rattle.orders.specs.Order.{Visibility, shown, hidden, sharesOf, interestOf}
 use Rattle.record.specs.declared.execution.Execution.{Execution}
 use Rattle.record.specs.Codec.{encode, decode}
 use Rattle.record.specs.Record.{numbersOf, orderOf, numbersSound}
@@ -25,11 +27,12 @@ use Rattle.book.specs.Sound.{sound, ordersOf, bookOf, orderAt}
 use Rattle.matching.specs.declared.Algorithm.the-variants.{PriceTime, ProRata}
 use Rattle.matching.specs.Paragraph.{paragraphNumber}
 use Rattle.parts.specs.Key.{keyOf, groupIn, placeIn, sharesIn}
+use Rattle.parts.specs.Parts.{partKey}
 use Rattle.allocation.specs.Walk.{paragraphOf, partIn, executionsFrom, sharedBy, Walks, none, ended, next, fillsOf, gotAt}
 use Rattle.allocation.specs.Stretch.{groupAt, Parted, Whole, Ends}
-use Rattle.allocation.specs.Credit.{Ledger, ledger, leftIn, logged, Room, Credited}
+use Rattle.allocation.specs.Credit.{seen, noted, Ledger, ledger, leftIn, logged, Room, Credited}
 use Rattle.allocation.specs.Ready.{Ascending, Stands}
-use Rattle.allocation.specs.Sharing.{Book, minimumIn, Columns, Shared, FirstSetter, Needed, Lent, Walked}
+use Rattle.allocation.specs.Sharing.{Book, minimumIn, Columns, Shared, FirstSetter, Needed, Holds, Lent, Walked}
 
 order : Kind → ℕ → ℕ → ℕ → Bool → Order
 order kind number price size setter = record {
@@ -78,8 +81,16 @@ values =
     -- those that got shares
     sameNumbers (fillsOf parts (100 ∷ 0 ∷ 50 ∷ [])) (keyOf 100000 2 0 100 ∷ keyOf 100100 5 2 50 ∷ []) ∷
     sameNumbers (fillsOf parts (1 ∷ [])) (keyOf 100000 2 0 1 ∷ []) ∷
-    -- the first and the last are of one record
-    eqb (gotAt 1 (keyOf 0 0 1 1 ∷ keyOf 0 0 0 2 ∷ keyOf 1 0 1 3 ∷ []) (10 ∷ 20 ∷ 30 ∷ [])) 40 ∷
+    -- all but the second are of one record, the last of them of its non-displayed shares
+    eqb (gotAt ProRata shown 1 (keyOf 0 2 1 1 ∷ keyOf 0 2 0 2 ∷ keyOf 1 3 1 3 ∷ keyOf 1 4 1 5 ∷ []) (10 ∷ 20 ∷ 30 ∷ 50 ∷ [])) 40 ∷
+    eqb (gotAt ProRata hidden 1 (keyOf 0 2 1 1 ∷ keyOf 0 2 0 2 ∷ keyOf 1 3 1 3 ∷ keyOf 1 4 1 5 ∷ []) (10 ∷ 20 ∷ 30 ∷ 50 ∷ [])) 50 ∷
+    eqb (gotAt PriceTime hidden 1 (keyOf 0 2 1 1 ∷ keyOf 0 3 1 2 ∷ []) (10 ∷ 20 ∷ [])) 20 ∷
+    -- one of two lists, and a list in which a part's record got 7 more of the part's visibility
+    sameNumbers (seen shown (1 ∷ []) (2 ∷ [])) (1 ∷ []) ∷
+    sameNumbers (seen hidden (1 ∷ []) (2 ∷ [])) (2 ∷ []) ∷
+    sameNumbers (noted ProRata shown second 7 (10 ∷ 20 ∷ 30 ∷ [])) (10 ∷ 27 ∷ 30 ∷ []) ∷
+    sameNumbers (noted ProRata hidden second 7 (10 ∷ 20 ∷ 30 ∷ [])) (10 ∷ 20 ∷ 30 ∷ []) ∷
+    sameNumbers (noted ProRata hidden third 7 (10 ∷ 20 ∷ 30 ∷ [])) (10 ∷ 20 ∷ 37 ∷ []) ∷
     eqb (groupAt parts 2) 800805 ∷ []
 
 values-worked : all (λ b. b) values ≡ true
@@ -87,9 +98,9 @@ unfolding values book order bookOf encode decode numbersOf orderOf
 values-worked = refl
 
 -- a buy of so many shares that has so many fills, in memory with these
-abbrev kept : ℕ → ℕ → List ℕ → List ℕ → Ledger
-kept left count fills allotment =
-    ledger (record { incoming = record { taker = record { side = Buy; limit = record { 0 = 100100 } }; size = record { 0 = left } }; count = count }) fills allotment
+abbrev kept : ℕ → ℕ → List ℕ → List ℕ → List ℕ → Ledger
+kept left count fills ss hs =
+    ledger (record { incoming = record { taker = record { side = Buy; limit = record { 0 = 100100 } }; size = record { 0 = left } }; count = count }) fills ss hs
 
 -- executions: of each the number, price, shares and paragraph
 told : List Execution → List ℕ
@@ -101,7 +112,7 @@ named =
     sameNumbers (told (executionsFrom at parts (100 ∷ 0 ∷ 1 ∷ []))) (7 ∷ 100000 ∷ 100 ∷ 2 ∷ 11 ∷ 100100 ∷ 1 ∷ 5 ∷ []) ∷
     sameNumbers (told (executionsFrom at parts (300 ∷ []))) (7 ∷ 100000 ∷ 300 ∷ 2 ∷ []) ∷
     -- of the fills that are counted
-    sameNumbers (told (logged at (kept 0 1 (third ∷ first ∷ []) []))) (11 ∷ 100100 ∷ 400 ∷ 5 ∷ []) ∷ []
+    sameNumbers (told (logged at (kept 0 1 (third ∷ first ∷ []) [] []))) (11 ∷ 100100 ∷ 400 ∷ 5 ∷ []) ∷ []
 
 named-worked : all (λ b. b) named ≡ true
 unfolding named told book order bookOf encode decode numbersOf orderOf
@@ -181,44 +192,68 @@ ends-late : Ends parts 0 3 → ⊥
 ends-late h = omega (arith, h .same 2 (omega arith) (omega arith))
 
 abbrev start : Ledger
-start = kept 600 1 (7 ∷ 0 ∷ 0 ∷ 0 ∷ []) (5 ∷ 0 ∷ 0 ∷ [])
+start = kept 600 1 (7 ∷ 0 ∷ 0 ∷ 0 ∷ []) (5 ∷ 0 ∷ 0 ∷ []) (0 ∷ 0 ∷ 4 ∷ [])
 
 left-in : leftIn start ≡ 600
 left-in = refl
 
 -- there is room for three parts behind the first fill, for three records, and for 600 shares beside those that one got
 room : Room parts start
-room = record { fills = omega arith; places = (omega arith, (omega arith, (omega arith, tt))); bounded = bounded }
+room = record { fills = omega arith; places = places; bounded = bounded }
   where
-    bounded : (i : ℕ) → getD (5 ∷ 0 ∷ 0 ∷ []) i 0 + 600 ≤ 999999
-    bounded zero = omega arith
-    bounded (suc zero) = omega arith
-    bounded (suc (suc zero)) = omega arith
-    bounded (suc (suc (suc i))) = omega arith
+    places : (v : Visibility) → Every (λ k. placeIn k < length (start .allotment v)) parts
+    places shown = (omega arith, (omega arith, (omega arith, tt)))
+    places hidden = (omega arith, (omega arith, (omega arith, tt)))
 
-no-room : (Room parts (kept 600 1 (7 ∷ 0 ∷ 0 ∷ []) (5 ∷ 0 ∷ 0 ∷ [])) → ⊥)
-    × (Room parts (kept 600 1 (7 ∷ 0 ∷ 0 ∷ 0 ∷ []) (5 ∷ 0 ∷ [])) → ⊥)
-    × (Room parts (kept 600 1 (7 ∷ 0 ∷ 0 ∷ 0 ∷ []) (999400 ∷ 0 ∷ 0 ∷ [])) → ⊥)
-no-room = (λ h. omega (arith, h .fills), λ h. omega (arith, h .places .1 .1 .0), λ h. omega (arith, h .bounded 0))
+    small : (a b c i : ℕ) → a < 10 → b < 10 → c < 10 → getD (a ∷ b ∷ c ∷ []) i 0 + 600 ≤ 999999
+    small a b c zero x y z = omega arith
+    small a b c (suc zero) x y z = omega arith
+    small a b c (suc (suc zero)) x y z = omega arith
+    small a b c (suc (suc (suc i))) x y z = omega arith
+
+    bounded : (v : Visibility) (i : ℕ) → getD (start .allotment v) i 0 + 600 ≤ 999999
+    bounded shown i = small 5 0 0 i (omega arith) (omega arith) (omega arith)
+    bounded hidden i = small 0 0 4 i (omega arith) (omega arith) (omega arith)
+
+no-room : (Room parts (kept 600 1 (7 ∷ 0 ∷ 0 ∷ []) (5 ∷ 0 ∷ 0 ∷ []) (0 ∷ 0 ∷ 0 ∷ [])) → ⊥)
+    × (Room parts (kept 600 1 (7 ∷ 0 ∷ 0 ∷ 0 ∷ []) (5 ∷ 0 ∷ []) (0 ∷ 0 ∷ 0 ∷ [])) → ⊥)
+    × (Room parts (kept 600 1 (7 ∷ 0 ∷ 0 ∷ 0 ∷ []) (5 ∷ 0 ∷ 0 ∷ []) (0 ∷ 0 ∷ [])) → ⊥)
+    × (Room parts (kept 600 1 (7 ∷ 0 ∷ 0 ∷ 0 ∷ []) (5 ∷ 0 ∷ 0 ∷ []) (999400 ∷ 0 ∷ 0 ∷ [])) → ⊥)
+no-room =
+    (λ h. omega (arith, h .fills), λ h. omega (arith, h .places shown .1 .1 .0), λ h. omega (arith, h .places hidden .1 .1 .0), λ h. omega (arith, h .bounded hidden 0))
 
 -- no part is of a record behind the third
-nobody : (i a b c : ℕ) → gotAt (suc (suc (suc i))) parts (a ∷ b ∷ c ∷ []) ≡ 0
-nobody i a b c =
+nobody : (v : Visibility) (i a b c : ℕ) → gotAt ProRata v (suc (suc (suc i))) parts (a ∷ b ∷ c ∷ []) ≡ 0
+nobody v i a b c =
     let other : (k : ℕ) → k < 3 → eqb k (suc (suc (suc i))) ≡ false = λ k h. ne-eqb k (suc (suc (suc i))) (λ e. absurd (omega (arith, e))) in
     rw (other (placeIn first) (omega arith), other (placeIn second) (omega arith), other (placeIn third) (omega arith))
 
 -- the parts get 300, nothing and 100; what lies behind the fills may be anything
-credited : Credited parts (300 ∷ 0 ∷ 100 ∷ []) start (kept 200 3 (7 ∷ first ∷ keyOf 100100 5 2 100 ∷ 9 ∷ []) (305 ∷ 0 ∷ 100 ∷ []))
-credited = record { left = refl; count = refl; fills = refl; executions = λ at. refl; allotment = allotment; room = refl; records = refl }
+credited : Credited ProRata parts (300 ∷ 0 ∷ 100 ∷ []) start
+    (kept 200 3 (7 ∷ first ∷ keyOf 100100 5 2 100 ∷ 9 ∷ []) (305 ∷ 0 ∷ 0 ∷ []) (0 ∷ 0 ∷ 104 ∷ []))
+credited = record { left = refl; count = refl; fills = refl; executions = λ at. refl; allotment = allotment; room = refl; records = λ v. same v }
   where
-    allotment : (i : ℕ) → getD (305 ∷ 0 ∷ 100 ∷ []) i 0 ≡ getD (5 ∷ 0 ∷ 0 ∷ []) i 0 + gotAt i parts (300 ∷ 0 ∷ 100 ∷ [])
-    allotment zero = refl
-    allotment (suc zero) = refl
-    allotment (suc (suc zero)) = refl
-    allotment (suc (suc (suc i))) = omega (arith, nobody i 300 0 100)
+    same : (v : Visibility) → length (seen v (305 ∷ 0 ∷ 0 ∷ []) (0 ∷ 0 ∷ 104 ∷ [])) ≡ length (start .allotment v)
+    same shown = refl
+    same hidden = refl
+
+    allotment : (v : Visibility) (i : ℕ)
+        → getD (seen v (305 ∷ 0 ∷ 0 ∷ []) (0 ∷ 0 ∷ 104 ∷ [])) i 0 ≡ getD (start .allotment v) i 0 + gotAt ProRata v i parts (300 ∷ 0 ∷ 100 ∷ [])
+    allotment shown zero = refl
+    allotment shown (suc zero) = refl
+    allotment shown (suc (suc zero)) = refl
+    allotment shown (suc (suc (suc i))) = omega (arith, nobody shown i 300 0 100)
+    allotment hidden zero = refl
+    allotment hidden (suc zero) = refl
+    allotment hidden (suc (suc zero)) = refl
+    allotment hidden (suc (suc (suc i))) = omega (arith, nobody hidden i 300 0 100)
+
+-- displayed shares that are kept as non-displayed ones
+unseen : Credited ProRata (first ∷ []) (300 ∷ []) (kept 300 0 (0 ∷ []) (0 ∷ []) (0 ∷ [])) (kept 0 1 (first ∷ []) (0 ∷ []) (300 ∷ [])) → ⊥
+unseen h = let e : _≡_ {A = ℕ} 0 300 = h .allotment shown 0 in omega arith
 
 -- a fill that names paragraph 3, of a part that got its shares in paragraph 2
-misnamed : Credited (first ∷ []) (300 ∷ []) (kept 300 0 (0 ∷ []) (0 ∷ [])) (kept 0 1 (keyOf 100000 3 0 300 ∷ []) (300 ∷ [])) → ⊥
+misnamed : Credited ProRata (first ∷ []) (300 ∷ []) (kept 300 0 (0 ∷ []) (0 ∷ []) (0 ∷ [])) (kept 0 1 (keyOf 100000 3 0 300 ∷ []) (300 ∷ []) (0 ∷ [])) → ⊥
 unfolding book order bookOf encode decode numbersOf orderOf
 misnamed h = let e : _≡_ {A = ℕ} 3 2 = ap (λ es. total (λ e. e .paragraph) es) (h .executions at) in omega arith
 
@@ -233,8 +268,11 @@ not-ascending = (λ h. omega (arith, h .0 .0), λ h. omega (arith, h .0 .1 .0))
 stands : Every (Stands at 3 100 ProRata Buy) parts
 unfolding book order bookOf encode decode numbersOf orderOf
 stands = (
-  record { within = omega arith; opposite = refl; is = refl },
-  (record { within = omega arith; opposite = refl; is = refl }, (record { within = omega arith; opposite = refl; is = refl }, tt)),
+  record { within = omega arith; opposite = refl; visibility = shown; some = omega arith; is = refl },
+  (
+    record { within = omega arith; opposite = refl; visibility = shown; some = omega arith; is = refl },
+    (record { within = omega arith; opposite = refl; visibility = hidden; some = omega arith; is = refl }, tt),
+  ),
 )
 
 same-side : Stands at 3 100 ProRata Sell (keyOf 4294867295 2 0 300) → ⊥
@@ -246,7 +284,20 @@ behind-all h = omega (arith, h .within)
 
 other-shares : Stands at 3 100 ProRata Buy (keyOf 100000 2 0 299) → ⊥
 unfolding book order bookOf encode decode numbersOf orderOf
-other-shares h = omega (arith, h .is)
+other-shares h = go (h .visibility) (h .some) (h .is)
+  where
+    go : (v : Visibility) → 0 < sharesOf v (interestOf (at 0)) → keyOf 100000 2 0 299 ≡ partKey 100 ProRata Buy v 0 (at 0) → ⊥
+    go shown s e = omega (arith, e)
+    go hidden s e = omega arith
+
+-- nor is one of no shares
+no-shares : Stands at 3 100 ProRata Buy (keyOf 100000 6 0 0) → ⊥
+unfolding book order bookOf encode decode numbersOf orderOf
+no-shares h = go (h .visibility) (h .some) (h .is)
+  where
+    go : (v : Visibility) → 0 < sharesOf v (interestOf (at 0)) → keyOf 100000 6 0 0 ≡ partKey 100 ProRata Buy v 0 (at 0) → ⊥
+    go shown s e = omega (arith, e)
+    go hidden s e = omega arith
 
 -- the parts of the book
 of-book : Book book 100 ProRata Buy parts
@@ -261,10 +312,30 @@ columns : Columns (first ∷ second ∷ []) (0 ∷ 0 ∷ []) (0 ∷ 0 ∷ []) (0
 columns = record { forSizes = refl; forMinimums = refl; forGets = refl }
 
 long : Lent (first ∷ []) (0 ∷ 0 ∷ []) (0 ∷ []) (0 ∷ 0 ∷ 0 ∷ [])
-long = record { sizesLong = omega arith; minimumsLong = omega arith; getsLong = omega arith }
+long = record {
+  sizesLong = λ from end e. omega (arith, e .within);
+  minimumsLong = λ from end e. omega (arith, e .within);
+  getsLong = λ from end e. omega (arith, e .within);
+}
+
+-- two groups, of two parts and of one, need no more than two entries
+for-two : Holds parts (0 ∷ 0 ∷ [])
+for-two zero end e = last (decLe end 2)
+  where
+    last : Dec (end ≤ 2) → end - 0 ≤ 2
+    last (yes l) = omega arith
+    last (no l) = omega (arith, e .same 2 (omega arith) (omega arith))
+for-two (suc from) end e = omega (arith, e .within)
+
+whole-one : Ends (first ∷ []) 0 1
+whole-one = record { some = omega arith; within = omega arith; same = same; parted = λ i j a b c. absurd (omega arith) }
+  where
+    same : (j : ℕ) → 0 ≤ j → j < 1 → groupAt (first ∷ []) j ≡ groupAt (first ∷ []) 0
+    same zero a b = refl
+    same (suc j) a b = absurd (omega arith)
 
 short : (Lent (first ∷ []) [] (0 ∷ []) (0 ∷ []) → ⊥) × (Lent (first ∷ []) (0 ∷ []) [] (0 ∷ []) → ⊥) × (Lent (first ∷ []) (0 ∷ []) (0 ∷ []) [] → ⊥)
-short = (λ h. omega (arith, h .sizesLong), λ h. omega (arith, h .minimumsLong), λ h. omega (arith, h .getsLong))
+short = (λ h. omega (arith, h .sizesLong 0 1 whole-one), λ h. omega (arith, h .minimumsLong 0 1 whole-one), λ h. omega (arith, h .getsLong 0 1 whole-one))
 
 -- 499 shares are shared by the two of the first group, which has 500; no shares aren't, nor 500, nor is one share by parts of two groups
 shared : Shared (first ∷ second ∷ []) 499
@@ -303,15 +374,30 @@ unfolding book order bookOf encode decode numbersOf orderOf
 other-place h = false≢true h
 
 -- the way of 600 shares, kept
-walked : Walked book parts 100 ProRata (kept 600 0 (0 ∷ 0 ∷ 0 ∷ []) (0 ∷ 0 ∷ 0 ∷ [])) (kept 0 3 (first ∷ second ∷ keyOf 100100 5 2 100 ∷ []) (300 ∷ 200 ∷ 100 ∷ []))
+walked : Walked book parts 100 ProRata (kept 600 0 (0 ∷ 0 ∷ 0 ∷ []) (0 ∷ 0 ∷ 0 ∷ []) (0 ∷ 0 ∷ 0 ∷ []))
+    (kept 0 3 (first ∷ second ∷ keyOf 100100 5 2 100 ∷ []) (300 ∷ 200 ∷ 0 ∷ []) (0 ∷ 0 ∷ 100 ∷ []))
 walked = record {
   gets = 300 ∷ 200 ∷ 100 ∷ [];
   walks = two-groups;
-  credited = record { left = refl; count = refl; fills = refl; executions = λ at. refl; allotment = allotment; room = refl; records = refl };
+  credited = record { left = refl; count = refl; fills = refl; executions = λ at. refl; allotment = allotment; room = refl; records = same };
 }
   where
-    allotment : (i : ℕ) → getD (300 ∷ 200 ∷ 100 ∷ []) i 0 ≡ getD (0 ∷ 0 ∷ 0 ∷ []) i 0 + gotAt i parts (300 ∷ 200 ∷ 100 ∷ [])
-    allotment zero = refl
-    allotment (suc zero) = refl
-    allotment (suc (suc zero)) = refl
-    allotment (suc (suc (suc i))) = omega (arith, nobody i 300 200 100)
+    none : Visibility → List ℕ
+    none v = seen v (0 ∷ 0 ∷ 0 ∷ []) (0 ∷ 0 ∷ 0 ∷ [])
+
+    then : Visibility → List ℕ
+    then v = seen v (300 ∷ 200 ∷ 0 ∷ []) (0 ∷ 0 ∷ 100 ∷ [])
+
+    same : (v : Visibility) → length (then v) ≡ length (none v)
+    same shown = refl
+    same hidden = refl
+
+    allotment : (v : Visibility) (i : ℕ) → getD (then v) i 0 ≡ getD (none v) i 0 + gotAt ProRata v i parts (300 ∷ 200 ∷ 100 ∷ [])
+    allotment shown zero = refl
+    allotment shown (suc zero) = refl
+    allotment shown (suc (suc zero)) = refl
+    allotment shown (suc (suc (suc i))) = omega (arith, nobody shown i 300 200 100)
+    allotment hidden zero = refl
+    allotment hidden (suc zero) = refl
+    allotment hidden (suc (suc zero)) = refl
+    allotment hidden (suc (suc (suc i))) = omega (arith, nobody hidden i 300 200 100)

@@ -1,5 +1,5 @@
 -- A group that is shared in part.
-use Prim.Native.Nat.{ℕ, zero, suc, _≤_, _<_}
+use Prim.Native.Nat.{ℕ, zero, suc, _-_, _≤_, _<_}
 use mathlib.Core.Path.{_≡_}
 use mathlib.Core.Bool.{true, false}
 use mathlib.Core.List.{List, [], _∷_, map}
@@ -14,6 +14,7 @@ use Rattle.book.specs.Sound.{sound, ordersOf, orderAt}
 use Rattle.matching.specs.declared.Algorithm.{Algorithm}
 use Rattle.parts.specs.Key.{groupIn, sharesIn}
 use Rattle.allocation.specs.Walk.{partIn, Walks}
+use Rattle.allocation.specs.Stretch.{Ends}
 use Rattle.allocation.specs.Credit.{Ledger, leftIn, Credited}
 use Rattle.allocation.specs.Ready.{Ready}
 
@@ -55,14 +56,17 @@ Needed s keys (InTurn rank) minimums setter = minimums ≡ map (minimumIn s) key
 Needed s keys Lots minimums setter = Unit {0}
 Needed s keys Setter minimums setter = FirstSetter (map (partIn (orderAt s)) keys) setter
 
--- columns long enough for any group of the keys
+-- a column long enough for any group of the keys
+abbrev pub Holds : List ℕ → List ℕ → Type 0
+Holds keys column = (from end : ℕ) → Ends keys from end → end - from ≤ length column
+
 pub record Lent (keys sizes minimums gets : List ℕ) : Type 0 where
-  pub sizesLong : length keys ≤ length sizes
-  pub minimumsLong : length keys ≤ length minimums
-  pub getsLong : length keys ≤ length gets
+  pub sizesLong : Holds keys sizes
+  pub minimumsLong : Holds keys minimums
+  pub getsLong : Holds keys gets
 
 -- What an incoming order's way through the keys came to.
 pub record Walked (s keys : List ℕ) (lot : ℕ) (alg : Algorithm) (start end : Ledger) : Type 0 where
   pub gets : List ℕ
   pub walks : Walks (orderAt s) lot alg keys (leftIn start) gets
-  pub credited : Credited keys gets start end
+  pub credited : Credited alg keys gets start end

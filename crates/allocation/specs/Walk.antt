@@ -8,13 +8,14 @@ use Rattle.units.proofs.Members.{Every}
 use Rattle.sharing.specs.Rank.{Part}
 use Rattle.sharing.specs.Method.{allotBy}
 use Rattle.orders.specs.declared.order.Order.{Order}
-use Rattle.orders.specs.Order.{minimumOf}
+use Rattle.orders.specs.Order.{Visibility, sharesOf, onlyOf, minimumOf}
 use Rattle.record.specs.declared.execution.Execution.{Execution}
 use Rattle.matching.specs.declared.Algorithm.{Algorithm}
 use Rattle.matching.specs.declared.Paragraph.{Paragraph}
 use Rattle.matching.specs.Paragraph.{methodOf}
 use Rattle.matching.specs.Numbered.{paragraphNumbered}
 use Rattle.parts.specs.Key.{groupIn, paragraphIn, placeIn, sharesIn, withShares}
+use Rattle.parts.specs.Visible.{visibilityIn}
 use Rattle.parts.specs.Execution.{executionIn}
 
 -- the paragraph of a group
@@ -55,6 +56,6 @@ fillsOf [] gets = []
 fillsOf (k ∷ keys) [] = []
 fillsOf (k ∷ keys) (n ∷ gets) = consIf (ltb 0 n) (withShares n k) (fillsOf keys gets)
 
--- what the parts of the record at a place got
-abbrev pub gotAt : ℕ → List ℕ → List ℕ → ℕ
-gotAt place keys gets = sum (zipWith (λ k n. orZero (eqb (placeIn k) place) n) keys gets)
+-- what the parts of a visibility of the record at a place got
+abbrev pub gotAt : Algorithm → Visibility → ℕ → List ℕ → List ℕ → ℕ
+gotAt alg v place keys gets = sum (zipWith (λ k n. orZero (eqb (placeIn k) place) (sharesOf v (onlyOf (visibilityIn alg k) n))) keys gets)

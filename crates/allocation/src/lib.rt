@@ -11,7 +11,7 @@ ghost use Rattle.allocation.specs.Credit.{ledger, Room};
 ghost use Rattle.allocation.specs.Sharing.{Book, Lent, Walked};
 
 // How far an incoming order has come: what is left of it, and how many fills it has. These are in lent memory: a fill is a part with the
-// shares that it got, and beside them stands, for each record of the book, what its order got.
+// shares that it got, and beside them stands, for each record of the book, what its order got of each visibility.
 pub struct Progress {
     pub incoming: Incoming,
     pub count: usize,
@@ -28,20 +28,22 @@ pub fn allocate(
     minimums: &mut [u32],
     gets: &mut [u32],
     fills: &mut [u64],
-    allotment: &mut [u32],
+    shown: &mut [u32],
+    hidden: &mut [u32],
 ) -> Progress
     requires { ⌜ Book (now book) (lot .0) algorithm (incoming .taker .side) (now keys)
         × Lent (now keys) (now sizes) (now minimums) (now gets)
-        × Room (now keys) (ledger (record { incoming = incoming; count = 0 }) (now fills) (now allotment)) ⌝ }
+        × Room (now keys) (ledger (record { incoming = incoming; count = 0 }) (now fills) (now shown) (now hidden)) ⌝ }
     ensures { λ r. ⌜ Walked (now (book .entry)) (now (keys .entry)) (lot .0) algorithm
-        (ledger (record { incoming = incoming; count = 0 }) (now (fills .entry)) (now (allotment .entry))) (ledger r (now (fills .exit)) (now (allotment .exit))) ⌝ }
+        (ledger (record { incoming = incoming; count = 0 }) (now (fills .entry)) (now (shown .entry)) (now (hidden .entry)))
+        (ledger r (now (fills .exit)) (now (shown .exit)) (now (hidden .exit))) ⌝ }
 {
     let mut reached = Progress { incoming, count: 0 };
     let mut at = 0;
     while at < keys.len() {
         let order = reached.incoming;
         let whole = at + stretch::whole(&keys[at..], order.size);
-        reached = credit::fill(&keys[at..whole], reached, fills, allotment);
+        reached = credit::fill(&keys[at..whole], reached, algorithm, fills, shown, hidden);
         if whole == keys.len() {
             return reached;
         }
@@ -61,7 +63,8 @@ pub fn allocate(
             &mut minimums[..end - whole],
             &mut gets[..end - whole],
             fills,
-            allotment,
+            shown,
+            hidden,
         );
         at = end;
     }

@@ -94,14 +94,16 @@ pub(crate) fn share(
     minimums: &mut [u32],
     gets: &mut [u32],
     fills: &mut [u64],
-    allotment: &mut [u32],
+    shown: &mut [u32],
+    hidden: &mut [u32],
 ) -> Progress
     requires { ⌜ Book (now book) (lot .0) algorithm (from .incoming .taker .side) (now keys)
         × Columns (now keys) (now sizes) (now minimums) (now gets)
         × Shared (now keys) (from .incoming .size .0)
-        × Room (now keys) (ledger from (now fills) (now allotment)) ⌝ }
-    ensures { λ r. ⌜ Credited (now (keys .entry)) (sharedBy (orderAt (now (book .entry))) (lot .0) algorithm (groupIn (getD (now (keys .entry)) 0 0)) (now (keys .entry)) (from .incoming .size .0))
-        (ledger from (now (fills .entry)) (now (allotment .entry))) (ledger r (now (fills .exit)) (now (allotment .exit))) ⌝ }
+        × Room (now keys) (ledger from (now fills) (now shown) (now hidden)) ⌝ }
+    ensures { λ r. ⌜ Credited algorithm (now (keys .entry)) (sharedBy (orderAt (now (book .entry))) (lot .0) algorithm (groupIn (getD (now (keys .entry)) 0 0)) (now (keys .entry)) (from .incoming .size .0))
+        (ledger from (now (fills .entry)) (now (shown .entry)) (now (hidden .entry)))
+        (ledger r (now (fills .exit)) (now (shown .exit)) (now (hidden .exit))) ⌝ }
 {
     let incoming = from.incoming;
     let paragraph = Paragraph::of(key::paragraph(keys[0]));
@@ -118,5 +120,5 @@ pub(crate) fn share(
         lot,
         gets,
     );
-    credit::credit(keys, gets, from, fills, allotment)
+    credit::credit(keys, gets, from, algorithm, fills, shown, hidden)
 }

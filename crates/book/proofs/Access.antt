@@ -20,24 +20,24 @@ use Rattle.book.proofs.Soundness.{book-facts, orders-sound}
 use Rattle.book.proofs.Checking.{occupied-first, orders-count, orders-first}
 
 -- record i behind the first record is the next
-next-record : (s : List ℕ) (i : ℕ) → take 32 (drop (32 * i) (drop 32 s)) ≡ take 32 (drop (32 * suc i) s)
+next-record : (s : List ℕ) (i : ℕ) → take 40 (drop (40 * i) (drop 40 s)) ≡ take 40 (drop (40 * suc i) s)
 next-record s i =
-    let e : 32 + 32 * i ≡ 32 * suc i = omega arith in
-    ap (take 32) (drop-drop (32 * i) 32 s ∙ ap (λ k. drop k s) e)
+    let e : 40 + 40 * i ≡ 40 * suc i = omega arith in
+    ap (take 40) (drop-drop (40 * i) 40 s ∙ ap (λ k. drop k s) e)
 
 -- the first orders are so many
 pub first-count : (n : ℕ) (s : List ℕ) → length (firstOrders n s) ≡ n
 first-count zero s = refl
-first-count (suc n) s = ap suc (first-count n (drop 32 s))
+first-count (suc n) s = ap suc (first-count n (drop 40 s))
 
 -- behind the first k records lie the others
-records-behind : (k n : ℕ) (s : List ℕ) → k ≤ n → drop k (firstRecords form n s) ≡ firstRecords form (n - k) (drop (32 * k) s)
+records-behind : (k n : ℕ) (s : List ℕ) → k ≤ n → drop k (firstRecords form n s) ≡ firstRecords form (n - k) (drop (40 * k) s)
 records-behind zero n s h = let e : n - 0 ≡ n = omega arith in rw e
 records-behind (suc k) zero s h = absurd (omega arith)
 records-behind (suc k) (suc n) s h =
-    let e : 32 + 32 * k ≡ 32 * suc k = omega arith in
+    let e : 40 + 40 * k ≡ 40 * suc k = omega arith in
     let m : suc n - suc k ≡ n - k = omega arith in
-    rw m (records-behind k n (drop 32 s) (omega arith) ∙ ap (firstRecords form (n - k)) (drop-drop (32 * k) 32 s ∙ ap (λ j. drop j s) e))
+    rw m (records-behind k n (drop 40 s) (omega arith) ∙ ap (firstRecords form (n - k)) (drop-drop (40 * k) 40 s ∙ ap (λ j. drop j s) e))
 
 drop-map : {A B : Type 0} (f : A → B) (k : ℕ) (xs : List A) → drop k (map f xs) ≡ map f (drop k xs)
 drop-map f zero xs = refl
@@ -45,26 +45,26 @@ drop-map f (suc k) [] = refl
 drop-map f (suc k) (x ∷ xs) = drop-map f k xs
 
 -- and behind the first k orders
-pub first-behind : (k n : ℕ) (s : List ℕ) → k ≤ n → drop k (firstOrders n s) ≡ firstOrders (n - k) (drop (32 * k) s)
+pub first-behind : (k n : ℕ) (s : List ℕ) → k ≤ n → drop k (firstOrders n s) ≡ firstOrders (n - k) (drop (40 * k) s)
 first-behind k n s h = drop-map (decodeOrder form) k (firstRecords form n s) ∙ ap (map (decodeOrder form)) (records-behind k n s h)
 
 -- the order of record i stands at place i of the first orders
 pub first-get : (n : ℕ) (s : List ℕ) (i : ℕ) (d : Order) → i < n → getD (firstOrders n s) i d ≡ orderAt s i
 first-get zero s i d h = absurd (omega arith)
 first-get (suc n) s zero d h = refl
-first-get (suc n) s (suc i) d h = first-get n (drop 32 s) i d (omega arith) ∙ ap (decodeOrder form) (next-record s i)
+first-get (suc n) s (suc i) d h = first-get n (drop 40 s) i d (omega arith) ∙ ap (decodeOrder form) (next-record s i)
 
 -- record i is sound where all of the first records are
 pub first-sound : (n : ℕ) (s : List ℕ) (i : ℕ) → i < n → all (recordSound form) (firstRecords form n s) ≡ true
-    → recordSound form (take 32 (drop (32 * i) s)) ≡ true
+    → recordSound form (take 40 (drop (40 * i) s)) ≡ true
 first-sound zero s i h e = absurd (omega arith)
-first-sound (suc n) s zero h e = and-true _ (all (recordSound form) (firstRecords form n (drop 32 s))) e .0
+first-sound (suc n) s zero h e = and-true _ (all (recordSound form) (firstRecords form n (drop 40 s))) e .0
 first-sound (suc n) s (suc i) h e =
-    ap (recordSound form) (sym (next-record s i)) ∙ first-sound n (drop 32 s) i (omega arith) (and-true (recordSound form (take 32 s)) _ e .1)
+    ap (recordSound form) (sym (next-record s i)) ∙ first-sound n (drop 40 s) i (omega arith) (and-true (recordSound form (take 40 s)) _ e .1)
 
 -- and so are those behind the first k
 pub behind-sound : (k n : ℕ) (s : List ℕ) → k ≤ n → all (recordSound form) (firstRecords form n s) ≡ true
-    → all (recordSound form) (firstRecords form (n - k) (drop (32 * k) s)) ≡ true
+    → all (recordSound form) (firstRecords form (n - k) (drop (40 * k) s)) ≡ true
 behind-sound k n s h e =
     let rs = firstRecords form n s in
     let w = sym (all-append (recordSound form) (take k rs) (drop k rs)) ∙ ap (all (recordSound form)) (take-append-drop k rs) ∙ e in
@@ -107,8 +107,8 @@ module _ (s : List ℕ) (i : ℕ) where
     order-at-sound = every-member OrderSound (ordersOf s) (orders-sound s e .each) (orderAt s i) (order-member h)
 
     -- the numbers of record i are its numbers
-    pub numbers-here : decode form (take 32 (drop (32 * i) s)) ≡ numbersOf (orderAt s i)
+    pub numbers-here : decode form (take 40 (drop (40 * i) s)) ≡ numbersOf (orderAt s i)
     numbers-here =
-        let r = take 32 (drop (32 * i) s) in
+        let r = take 40 (drop (40 * i) s) in
         let b = first-sound (length (ordersOf s)) s i h (records-sound s e) in
         sym (numbers-order (decode form r) (and-true (hasMark form r) (numbersSound (decode form r)) b .1) (length-decode form r))

@@ -85,7 +85,7 @@ module _ (s : List ℕ) where
   orders-first = ap (map (decodeOrder form)) occupied-first ∙ ap (λ k. firstOrders k s) (sym orders-count)
 
   -- the records behind the orders are zero where the bytes are
-  pub behind-zero : length s % 32 ≡ 0 → all (all isZero) (behind (recordsIn form s)) ≡ all isZero (drop (32 * length (occupied (recordsIn form s))) s)
+  pub behind-zero : length s % 40 ≡ 0 → all (all isZero) (behind (recordsIn form s)) ≡ all isZero (drop (40 * length (occupied (recordsIn form s))) s)
   behind-zero h = zero-behind (capacityOf s) s (omega arith)
 
   -- a length that is no whole number of records, at most 256, is no sound book's
@@ -94,11 +94,11 @@ module _ (s : List ℕ) where
   sound-length h = rw h
 
   -- any other has at most 8,192 bytes
-  pub whole-most : (leb (length s) (mostOrders * recordBytes) && isZero (length s % recordBytes)) ≡ true → length s ≤ 8192
-  whole-most h = leb-true (length s) 8192 (and-true (leb (length s) (mostOrders * recordBytes)) (isZero (length s % recordBytes)) h .0)
+  pub whole-most : (leb (length s) (mostOrders * recordBytes) && isZero (length s % recordBytes)) ≡ true → length s ≤ 10240
+  whole-most h = leb-true (length s) 10240 (and-true (leb (length s) (mostOrders * recordBytes)) (isZero (length s % recordBytes)) h .0)
 
   -- the orders of a sound book lie in its bytes, and are at most 256
-  pub sound-fits : sound s ≡ true → (32 * length (ordersOf s) ≤ length s) × (length (ordersOf s) ≤ 256)
+  pub sound-fits : sound s ≡ true → (40 * length (ordersOf s) ≤ length s) × (length (ordersOf s) ≤ 256)
   sound-fits e = omega (arith, orders-fit s, capacity-most s e, capacity-bytes s e)
 
   -- check refuses an unsound book
@@ -111,7 +111,7 @@ module _ (s : List ℕ) where
     pub sound-parts : (leb (length s) (mostOrders * recordBytes) && isZero (length s % recordBytes)) ≡ true
         → sound s
         ≡ (all (recordSound form) (firstRecords form n s)
-        && all isZero (drop (32 * n) s)
+        && all isZero (drop (40 * n) s)
         && rising 0 (firstOrders n s)
         && settersSound (firstOrders n s))
     unfolding sound

@@ -27,13 +27,13 @@ module _ (call : Changed) (s : List ℕ) where
   -- it is accepted, and the order's record goes to this place
   pub record Writes (at : ℕ) (o : Order) : Type 0 where
     pub refusal : call .refusal ≡ 0
-    pub inside : at + 32 ≤ length s
+    pub inside : at + 40 ≤ length s
     pub book : AreBytes s → replaced at (encodeOrder form o) s ≡ call .book
 
   -- it is accepted, and the record at this place leaves
   pub record Removes (at : ℕ) : Type 0 where
     pub refusal : call .refusal ≡ 0
-    pub inside : at + 32 ≤ length s
+    pub inside : at + 40 ≤ length s
     pub book : AreBytes s → withoutRecord at s ≡ call .book
 
 -- a refused call changes no byte

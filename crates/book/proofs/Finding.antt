@@ -46,13 +46,13 @@ unknown-place n (o ∷ os) = go (hasNumber n o) (unknown-place n os)
 
 -- the record of an order lies behind those of the orders before it
 pub order-at : (n : ℕ) (s : List ℕ) (pre : List Order) (o : Order) (post : List Order) → firstOrders n s ≡ pre ++ (o ∷ post)
-    → decodeOrder form (take 32 (drop (32 * length pre) s)) ≡ o
+    → decodeOrder form (take 40 (drop (40 * length pre) s)) ≡ o
 order-at zero s pre o post e = absurd (omega (arith, ap length e ∙ length-append pre (o ∷ post)))
 order-at (suc n) s [] o post e = cc
 order-at (suc n) s (x ∷ pre) o post e =
-    let k : 32 * suc (length pre) ≡ 32 + 32 * length pre = omega arith in
-    let t : firstOrders n (drop 32 s) ≡ pre ++ (o ∷ post) = cc in
-    rw (k, ← drop-drop (32 * length pre) 32 s) (order-at n (drop 32 s) pre o post t)
+    let k : 40 * suc (length pre) ≡ 40 + 40 * length pre = omega arith in
+    let t : firstOrders n (drop 40 s) ≡ pre ++ (o ∷ post) = cc in
+    rw (k, ← drop-drop (40 * length pre) 40 s) (order-at n (drop 40 s) pre o post t)
 
 module _ (n : ℕ) (s : List ℕ) where
   -- refusal 1: the number is out of range
@@ -74,7 +74,7 @@ module _ (n : ℕ) (s : List ℕ) where
 
       -- accepted: the record of the order
       pub find-found : placeOf n (ordersOf s) < length (ordersOf s)
-          → findCall n s ≡ record { refusal = 0; start = 32 * placeOf n (ordersOf s); length = 32 }
+          → findCall n s ≡ record { refusal = 0; start = 40 * placeOf n (ordersOf s); length = 40 }
       unfolding findCall
       find-found h = rw (r, b, unknown-place n (ordersOf s), ne-eqb (placeOf n (ordersOf s)) (length (ordersOf s)) (λ e. omega arith))
 
@@ -89,7 +89,7 @@ module _ (n : ℕ) (s : List ℕ) where
         computed-missing h = find-missing (sym place-first ∙ h ∙ e)
 
         -- and accepted where it is not
-        pub computed-found : (p ≡ m → ⊥) → findCall n s ≡ record { refusal = 0; start = 32 * p; length = 32 }
+        pub computed-found : (p ≡ m → ⊥) → findCall n s ≡ record { refusal = 0; start = 40 * p; length = 40 }
         computed-found h =
             let k = place-first in
             find-found (omega (arith, place-most n (ordersOf s))) ∙ rw (← k)

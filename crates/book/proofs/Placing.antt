@@ -104,23 +104,23 @@ module _ (n : ℕ) (s : List ℕ) (e : findCall n s .refusal ≡ 0) where
       split-place n 0 os (orders-sound s (find-accepted .book) .rise) (omega (arith, place-most n os))
 
   -- its record begins behind those of the orders before it
-  pub find-start : findCall n s .start ≡ 32 * length (find-placed .before)
+  pub find-start : findCall n s .start ≡ 40 * length (find-placed .before)
   unfolding findCall
-  find-start = rw e (ap (λ k. 32 * k) (sym (find-placed .place)))
+  find-start = rw e (ap (λ k. 40 * k) (sym (find-placed .place)))
 
-  -- and has 32 bytes
-  pub find-length : findCall n s .length ≡ 32
+  -- and has 40 bytes
+  pub find-length : findCall n s .length ≡ 40
   unfolding findCall
   find-length = rw e
 
   -- which are the book's
-  pub find-inside : findCall n s .start + 32 ≤ length s
+  pub find-inside : findCall n s .start + 40 ≤ length s
   find-inside =
       let l = ap length (find-placed .split) ∙ length-append (find-placed .before) (find-placed .order ∷ find-placed .after) in
       omega (arith, find-start, orders-fit s, capacity-bytes s (find-accepted .book))
 
   -- the part of the book that it answers with is these bytes
-  pub found-part : foundPart (findCall n s) s ≡ take 32 (drop (findCall n s .start) s)
+  pub found-part : foundPart (findCall n s) s ≡ take 40 (drop (findCall n s .start) s)
   found-part = ap (λ k. take k (drop (findCall n s .start) s)) find-length
 
   -- they are the record of the order

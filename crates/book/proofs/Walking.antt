@@ -18,24 +18,24 @@ use Rattle.book.specs.Lookup.{placeOf}
 -- From byte `at` on, with n records to go.
 module _ (s : List ℕ) (at n : ℕ) where
   -- a record is unused where its first byte is zero
-  unused-at : isUnused (take 32 (drop at s)) ≡ isZero (getD s at 0)
-  unused-at = rw (getD-take 32 (drop at s) 0 0 (omega arith), getD-drop at s 0 0, add-zero at)
+  unused-at : isUnused (take 40 (drop at s)) ≡ isZero (getD s at 0)
+  unused-at = rw (getD-take 40 (drop at s) 0 0 (omega arith), getD-drop at s 0 0, add-zero at)
 
   -- Where there are some.
   module _ (h : 0 < n) where
     -- the first record, and those behind it
-    pub records-more : firstRecords form n (drop at s) ≡ take 32 (drop at s) ∷ firstRecords form (n - 1) (drop (at + 32) s)
+    pub records-more : firstRecords form n (drop at s) ≡ take 40 (drop at s) ∷ firstRecords form (n - 1) (drop (at + 40) s)
     records-more =
         let e : n ≡ suc (n - 1) = omega arith in
-        ap (λ k. firstRecords form k (drop at s)) e ∙ rw (drop-drop 32 at s)
+        ap (λ k. firstRecords form k (drop at s)) e ∙ rw (drop-drop 40 at s)
 
     -- the first order, and those behind it
-    pub orders-more : firstOrders n (drop at s) ≡ decodeOrder form (take 32 (drop at s)) ∷ firstOrders (n - 1) (drop (at + 32) s)
+    pub orders-more : firstOrders n (drop at s) ≡ decodeOrder form (take 40 (drop at s)) ∷ firstOrders (n - 1) (drop (at + 40) s)
     orders-more = ap (map (decodeOrder form)) records-more
 
     -- an occupied record is one more than those behind it
     pub count-more : (getD s at 0 ≡ 0 → ⊥)
-        → length (occupied (firstRecords form n (drop at s))) ≡ suc (length (occupied (firstRecords form (n - 1) (drop (at + 32) s))))
+        → length (occupied (firstRecords form n (drop at s))) ≡ suc (length (occupied (firstRecords form (n - 1) (drop (at + 40) s))))
     count-more e = ap (λ rs. length (occupied rs)) records-more ∙ rw (unused-at, ne-eqb (getD s at 0) 0 e)
 
     -- an unused one ends the count
@@ -44,26 +44,26 @@ module _ (s : List ℕ) (at n : ℕ) where
 
     -- a test of every record, gathered: whether those so far passed, and this one, and those behind it
     pub all-more : (p : List ℕ → Bool) (x : Bool)
-        → ((x && p (take 32 (drop at s))) && all p (firstRecords form (n - 1) (drop (at + 32) s))) ≡ (x && all p (firstRecords form n (drop at s)))
+        → ((x && p (take 40 (drop at s))) && all p (firstRecords form (n - 1) (drop (at + 40) s))) ≡ (x && all p (firstRecords form n (drop at s)))
     all-more p x =
-        and-assoc x (p (take 32 (drop at s))) (all p (firstRecords form (n - 1) (drop (at + 32) s))) ∙ ap (λ rs. x && all p rs) (sym records-more)
+        and-assoc x (p (take 40 (drop at s))) (all p (firstRecords form (n - 1) (drop (at + 40) s))) ∙ ap (λ rs. x && all p rs) (sym records-more)
 
     -- The first order, as it is read.
-    module _ (o : Order) (q : o ≡ decodeOrder form (take 32 (drop at s))) where
+    module _ (o : Order) (q : o ≡ decodeOrder form (take 40 (drop at s))) where
       -- it, and those behind it
-      pub orders-read : firstOrders n (drop at s) ≡ o ∷ firstOrders (n - 1) (drop (at + 32) s)
-      orders-read = orders-more ∙ ap (λ x. x ∷ firstOrders (n - 1) (drop (at + 32) s)) (sym q)
+      pub orders-read : firstOrders n (drop at s) ≡ o ∷ firstOrders (n - 1) (drop (at + 40) s)
+      orders-read = orders-more ∙ ap (λ x. x ∷ firstOrders (n - 1) (drop (at + 40) s)) (sym q)
 
       -- the numbers so far rise, this one is above the last, and those behind it rise above it
       pub rising-more : (last : ℕ) (x : Bool)
-          → ((x && ltb last (o .number)) && rising (o .number) (firstOrders (n - 1) (drop (at + 32) s))) ≡ (x && rising last (firstOrders n (drop at s)))
+          → ((x && ltb last (o .number)) && rising (o .number) (firstOrders (n - 1) (drop (at + 40) s))) ≡ (x && rising last (firstOrders n (drop at s)))
       rising-more last x =
-          and-assoc x (ltb last (o .number)) (rising (o .number) (firstOrders (n - 1) (drop (at + 32) s)))
+          and-assoc x (ltb last (o .number)) (rising (o .number) (firstOrders (n - 1) (drop (at + 40) s)))
           ∙ ap (λ os. x && rising last os) (sym orders-read)
 
       -- an order of another number stands before the one that is looked for
       pub place-more : (number : ℕ) → (o .number ≡ number → ⊥)
-          → placeOf number (firstOrders n (drop at s)) ≡ suc (placeOf number (firstOrders (n - 1) (drop (at + 32) s)))
+          → placeOf number (firstOrders n (drop at s)) ≡ suc (placeOf number (firstOrders (n - 1) (drop (at + 40) s)))
       place-more number e = ap (placeOf number) orders-read ∙ rw (ne-eqb (o .number) number e)
 
       -- the order of this number has none before it
@@ -73,14 +73,14 @@ module _ (s : List ℕ) (at n : ℕ) where
       -- An answer x that is gathered order by order.
       module _ (p : Order → Bool) (x : Bool) where
         -- that one passes the test, so far or in what is to come
-        pub or-more : ((x || p o) || any p (firstOrders (n - 1) (drop (at + 32) s))) ≡ (x || any p (firstOrders n (drop at s)))
+        pub or-more : ((x || p o) || any p (firstOrders (n - 1) (drop (at + 40) s))) ≡ (x || any p (firstOrders n (drop at s)))
         or-more =
-            or-assoc x (p o) (any p (firstOrders (n - 1) (drop (at + 32) s))) ∙ ap (λ os. x || any p os) (sym orders-read)
+            or-assoc x (p o) (any p (firstOrders (n - 1) (drop (at + 40) s))) ∙ ap (λ os. x || any p os) (sym orders-read)
 
         -- that all pass
-        pub and-more : ((x && p o) && all p (firstOrders (n - 1) (drop (at + 32) s))) ≡ (x && all p (firstOrders n (drop at s)))
+        pub and-more : ((x && p o) && all p (firstOrders (n - 1) (drop (at + 40) s))) ≡ (x && all p (firstOrders n (drop at s)))
         and-more =
-            and-assoc x (p o) (all p (firstOrders (n - 1) (drop (at + 32) s))) ∙ ap (λ os. x && all p os) (sym orders-read)
+            and-assoc x (p o) (all p (firstOrders (n - 1) (drop (at + 40) s))) ∙ ap (λ os. x && all p os) (sym orders-read)
 
   -- Where there are none.
   module _ (h : n ≤ 0) where

@@ -31,21 +31,21 @@ crossed = bookOf 3 (order Buy 7 100100 true ∷ order Sell 9 100000 true ∷ [])
 
 checking : List Bool
 checking =
-    -- 0 to 8,192 bytes
+    -- 0 to 10,240 bytes
     sound [] ∷
-    sound (replicate 8192 0) ∷
+    sound (replicate 10240 0) ∷
     sound crossed ∷
     eqb (checkCall crossed .orders) 2 ∷
     sound (bookOf 1 (order Buy 1 100100 true ∷ [])) ∷
     eqb (capacityOf crossed) 3 ∷
     eqb (orderAt crossed 1 .number) 9 ∷
     -- a record's first byte alone says whether it is unused
-    eqb (length (ordersOf (set crossed 33 0))) 2 ∷
-    eqb (length (ordersOf (set crossed 32 0))) 1 ∷
+    eqb (length (ordersOf (set crossed 41 0))) 2 ∷
+    eqb (length (ordersOf (set crossed 40 0))) 1 ∷
     -- a length that is no whole number of records; too many records; a byte behind the orders
     not (sound (crossed ++ (0 ∷ []))) ∷
-    not (sound (replicate 8224 0)) ∷
-    not (sound (set crossed 95 1)) ∷
+    not (sound (replicate 10280 0)) ∷
+    not (sound (set crossed 119 1)) ∷
     -- a number that doesn't rise; two setter marks at one side and price, and at two prices
     not (sound (bookOf 2 (order Buy 7 100100 false ∷ order Buy 7 100000 false ∷ []))) ∷
     not (sound (bookOf 2 (order Buy 7 100100 true ∷ order Buy 9 100100 true ∷ []))) ∷
@@ -56,8 +56,8 @@ checking =
 -- the second record; no such order; the number before the book, the book before its orders
 finding : List Bool
 finding =
-    sameNumbers (foundPart (findCall 9 crossed) crossed) (take 32 (drop 32 crossed)) ∷
-    (eqb (findCall 9 crossed .start) 32 && eqb (findCall 9 crossed .length) 32) ∷
+    sameNumbers (foundPart (findCall 9 crossed) crossed) (take 40 (drop 40 crossed)) ∷
+    (eqb (findCall 9 crossed .start) 40 && eqb (findCall 9 crossed .length) 40) ∷
     eqb (findCall 8 crossed .refusal) 3 ∷
     eqb (findCall 0 (set crossed 0 1) .refusal) 1 ∷
     eqb (findCall 8 (set crossed 0 1) .refusal) 2 ∷

@@ -80,7 +80,7 @@ module _ (f : Form) where
   abbrev pub firstOrdersIn : ℕ → List ℕ → List Order
   firstOrdersIn n s = map (decodeOrder f) (firstRecords n s)
 
--- the form of a book's records: 32 bytes, so a book is 0 to 8,192 bytes
+-- the form of a book's records: 40 bytes, so a book is 0 to 10,240 bytes
 abbrev pub form : Form
 form = orderForm
 

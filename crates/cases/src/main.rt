@@ -1,11 +1,20 @@
-// The cases of the scope, run on lent bytes.
+// The cases of the scope, and those of reserve orders, run on lent bytes.
 mod report;
 
 use entry::admission::AddRequest;
 use matching::TakeRequest;
 
+fn add_request(book: &mut [u8], request: AddRequest) {
+    let refusal = entry::add(book, request);
+    report::text(b"add");
+    report::number(request.number);
+    report::text(b" refusal");
+    report::number(refusal);
+    report::text(b"\n");
+}
+
 fn add(book: &mut [u8], side: u32, kind: u32, order: u32, price: u32, size: u32, minimum: u32) {
-    let refusal = entry::add(
+    add_request(
         book,
         AddRequest {
             side,
@@ -14,13 +23,10 @@ fn add(book: &mut [u8], side: u32, kind: u32, order: u32, price: u32, size: u32,
             price,
             size,
             minimum,
+            hidden: 0,
+            refresh: 0,
         },
     );
-    report::text(b"add");
-    report::number(order);
-    report::text(b" refusal");
-    report::number(refusal);
-    report::text(b"\n");
 }
 
 // A resting sell at 100000: displayed, non-displayed, or with a minimum.
@@ -34,6 +40,33 @@ fn non_displayed(book: &mut [u8], order: u32, size: u32) {
 
 fn minimum_quantity(book: &mut [u8], order: u32, size: u32, minimum: u32) {
     add(book, 2, 3, order, 100_000, size, minimum);
+}
+
+// A reserve order at 100000 that is refreshed to what it shows.
+fn reserve(book: &mut [u8], side: u32, order: u32, shown: u32, hidden: u32) {
+    add_request(
+        book,
+        AddRequest {
+            side,
+            kind: 4,
+            number: order,
+            price: 100_000,
+            size: shown,
+            minimum: 0,
+            hidden,
+            refresh: shown,
+        },
+    );
+}
+
+fn reduce(book: &mut [u8], order: u32, shares: u32) {
+    let refusal = entry::reduce(book, order, shares);
+    report::text(b"reduce");
+    report::number(order);
+    report::number(shares);
+    report::text(b" refusal");
+    report::number(refusal);
+    report::text(b"\n");
 }
 
 // An incoming order, its executions, and the book afterwards. The execution buffer has bytes 7 at first, and those behind the executions stay.
@@ -69,7 +102,7 @@ fn case(letter: &[u8]) {
 // Cases a and b.
 fn three_displayed(letter: &[u8], size: u32) {
     case(letter);
-    let mut space = [0u8; 128];
+    let mut space = [0u8; 160];
     let book: &mut [u8] = &mut space;
     displayed(book, 1, 600);
     displayed(book, 2, 400);
@@ -80,7 +113,7 @@ fn three_displayed(letter: &[u8], size: u32) {
 // Cases c, d and e: order 2 sets the better price.
 fn better_price(letter: &[u8], second: u32, third: u32, size: u32) {
     case(letter);
-    let mut space = [0u8; 128];
+    let mut space = [0u8; 160];
     let book: &mut [u8] = &mut space;
     add(book, 2, 1, 1, 100_100, 1_000, 0);
     displayed(book, 2, second);
@@ -92,7 +125,7 @@ fn better_price(letter: &[u8], second: u32, third: u32, size: u32) {
 // Cases f, h, i and o.
 fn two_displayed(letter: &[u8], first: u32, second: u32, size: u32, algorithm: u32) {
     case(letter);
-    let mut space = [0u8; 128];
+    let mut space = [0u8; 160];
     let book: &mut [u8] = &mut space;
     displayed(book, 1, first);
     displayed(book, 2, second);
@@ -102,7 +135,7 @@ fn two_displayed(letter: &[u8], first: u32, second: u32, size: u32, algorithm: u
 // Case g, and what plain sharing gives.
 fn case_g(algorithm: u32) {
     case(b"g");
-    let mut space = [0u8; 128];
+    let mut space = [0u8; 160];
     let book: &mut [u8] = &mut space;
     displayed(book, 1, 300);
     displayed(book, 2, 250);
@@ -113,7 +146,7 @@ fn case_g(algorithm: u32) {
 
 fn case_j(size: u32) {
     case(b"j");
-    let mut space = [0u8; 128];
+    let mut space = [0u8; 160];
     let book: &mut [u8] = &mut space;
     minimum_quantity(book, 1, 500, 400);
     minimum_quantity(book, 2, 400, 300);
@@ -122,7 +155,7 @@ fn case_j(size: u32) {
 
 fn case_k(algorithm: u32) {
     case(b"k");
-    let mut space = [0u8; 128];
+    let mut space = [0u8; 160];
     let book: &mut [u8] = &mut space;
     non_displayed(book, 1, 50);
     minimum_quantity(book, 2, 200, 200);
@@ -131,7 +164,7 @@ fn case_k(algorithm: u32) {
 
 fn case_l() {
     case(b"l");
-    let mut space = [0u8; 128];
+    let mut space = [0u8; 160];
     let book: &mut [u8] = &mut space;
     minimum_quantity(book, 1, 300, 300);
     non_displayed(book, 2, 100);
@@ -141,7 +174,7 @@ fn case_l() {
 // A sell meets a buy above its limit.
 fn case_m() {
     case(b"m");
-    let mut space = [0u8; 128];
+    let mut space = [0u8; 160];
     let book: &mut [u8] = &mut space;
     add(book, 1, 1, 1, 100_000, 300, 0);
     incoming(book, 2, 90_000, 100, 1);
@@ -154,6 +187,93 @@ fn case_n(algorithm: u32) {
     let book: &mut [u8] = &mut space;
     buy(book, 10, algorithm);
     displayed(book, 1, 10);
+}
+
+// A reserve order of 100 shown and 250 hidden beside a displayed one of 300: executed in both parts and refreshed, or filled whole.
+fn both_parts(size: u32) {
+    case(b"reserve, both parts");
+    let mut space = [0u8; 160];
+    let book: &mut [u8] = &mut space;
+    reserve(book, 2, 1, 100, 250);
+    displayed(book, 2, 300);
+    buy(book, size, 2);
+}
+
+// Its hidden shares, fewer than a lot, come behind a non-displayed order of two.
+fn hidden_odd_lot() {
+    case(b"reserve, hidden below a lot");
+    let mut space = [0u8; 160];
+    let book: &mut [u8] = &mut space;
+    reserve(book, 2, 1, 100, 60);
+    non_displayed(book, 2, 200);
+    buy(book, 330, 2);
+}
+
+// Fewer shares are hidden than its refresh size: it shows them all, or none while it still shows one.
+fn refreshed_to_less(size: u32) {
+    case(b"reserve, less than the refresh size");
+    let mut space = [0u8; 160];
+    let book: &mut [u8] = &mut space;
+    reserve(book, 2, 1, 100, 30);
+    buy(book, size, 2);
+}
+
+// It shows fewer shares than a lot and hides more.
+fn shown_odd_lot() {
+    case(b"reserve, shown below a lot");
+    let mut space = [0u8; 160];
+    let book: &mut [u8] = &mut space;
+    reserve(book, 2, 1, 50, 150);
+    displayed(book, 2, 200);
+    buy(book, 260, 2);
+}
+
+// Under price/time its hidden shares stand among the others by its number.
+fn hidden_by_time() {
+    case(b"reserve, price/time");
+    let mut space = [0u8; 160];
+    let book: &mut [u8] = &mut space;
+    non_displayed(book, 1, 50);
+    reserve(book, 2, 2, 100, 250);
+    non_displayed(book, 3, 70);
+    buy(book, 200, 1);
+}
+
+// A price setter that is refreshed keeps its mark: the second buy gives it two fifths again.
+fn setter_refreshed() {
+    case(b"reserve, price setter");
+    let mut space = [0u8; 160];
+    let book: &mut [u8] = &mut space;
+    reserve(book, 2, 1, 100, 500);
+    displayed(book, 2, 900);
+    buy(book, 500, 3);
+    buy(book, 200, 3);
+}
+
+// A buy of 600 in all could trade with a minimum of 550, one of 500 could not; then hidden shares are taken off first.
+fn entered_and_reduced() {
+    case(b"reserve, add and reduce");
+    let mut space = [0u8; 160];
+    let book: &mut [u8] = &mut space;
+    minimum_quantity(book, 1, 600, 550);
+    reserve(book, 1, 2, 100, 500);
+    reserve(book, 1, 2, 100, 400);
+    report::book(book);
+    reduce(book, 2, 501);
+    reduce(book, 2, 420);
+    report::book(book);
+}
+
+fn reserve_cases() {
+    both_parts(500);
+    both_parts(650);
+    hidden_odd_lot();
+    refreshed_to_less(100);
+    refreshed_to_less(99);
+    shown_odd_lot();
+    hidden_by_time();
+    setter_refreshed();
+    entered_and_reduced();
 }
 
 fn displayed_cases() {
@@ -182,4 +302,5 @@ fn main() {
     case_n(2);
     case_n(3);
     two_displayed(b"o", 300, 200, 80, 3);
+    reserve_cases();
 }

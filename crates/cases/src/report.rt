@@ -95,18 +95,21 @@ pub(crate) fn answer(taken: Taken, buffer: &[u8]) {
     executions(buffer, taken.count);
 }
 
-// The order of the record that begins at a byte: its mark, number, size and minimum.
+// The order of the record that begins at a byte: its mark, number, size, minimum, hidden shares and setter mark.
 fn order(book: &[u8], at: usize)
-    requires { ⌜ at + 32 ≤ length (now book) ⌝ }
+    requires { ⌜ at + 40 ≤ length (now book) ⌝ }
 {
     let order = records::order_at(book, at);
     let size = order.size;
     let kind = order.kind;
     let minimum = kind.minimum();
+    let hidden = kind.hidden();
     text(&book[at..at + 2]);
     number(order.number);
     number(size.0);
     number(minimum.0);
+    number(hidden.0);
+    number(units::one_if(order.setter));
     text(b"\n");
 }
 

@@ -1,4 +1,5 @@
--- A desk whose book is sound and whose buffer has room for 256 executions stays so, and refuses no command with 2 or 8.
+-- A desk whose book is sound and has no reserve order, and whose buffer has room for 256 executions, stays so, and refuses no command
+-- with 2 or 8.
 use Prim.Native.Nat.{ℕ, _*_, _≤_}
 use mathlib.Core.Path.{_≡_, refl}
 use mathlib.Core.Bool.{Bool, true, false, cond}
@@ -26,17 +27,21 @@ use Rattle.matching.specs.declared.TakeRequest.{TakeRequest}
 use Rattle.matching.specs.Paragraph.{algorithmOf}
 use Rattle.matching.specs.Take.{outcome}
 use Rattle.matching.specs.TakeCall.{takeRefusals, takeCall, outcomeOf, incomingOf, written}
+use Rattle.matching.specs.Parts.{withoutReserve}
 use Rattle.matching.proofs.Counting.{executions-most}
+use Rattle.matching.proofs.Before.{take-without-reserve}
 use Rattle.matching.proofs.Taking.{take-sound, take-written}
 use Rattle.script.specs.declared.command.Command.{Command}
 use Rattle.script.specs.declared.command.Command.the-variants.{Choose, Add, Reduce, Take, Nothing}
 use Rattle.desk.specs.declared.Answer.{Answer}
 use Rattle.desk.specs.declared.Answer.the-variants.{Silent, Refused, Listed}
 use Rattle.desk.specs.Desk.{refusedOr, Desk, performed}
+use Rattle.desk.proofs.Plain.{add-plain, reduce-plain}
 
--- a sound book, and room for 256 executions
+-- a sound book without reserve orders, and room for 256 executions
 pub record Ready (d : Desk) : Type 0 where
   pub book : sound (d .book) ≡ true
+  pub plain : withoutReserve (ordersOf (d .book)) ≡ true
   pub room : 4096 ≤ length (d .executions)
 
 -- an answer that is a refusal has the call's number
@@ -61,21 +66,36 @@ executions-long : (es : List Execution) → length (flatMap encodeExecution es) 
 executions-long [] = refl
 executions-long (e ∷ es) = omega (arith, length-append (encodeExecution e) (flatMap encodeExecution es), length-execution e, executions-long es)
 
--- On a sound book.
-module _ (s : List ℕ) (h : sound s ≡ true) where
+-- On a sound book without reserve orders.
+module _ (s : List ℕ) (h : sound s ≡ true) (p : withoutReserve (ordersOf s) ≡ true) where
   add-keeps : (q : AddRequest) → sound (addCall q s .book) ≡ true
   unfolding addCall
   add-keeps q = decided (addCall q s .refusal) (sound (addCall q s .book) ≡ true) (add-sound q s) (λ n. rw (ne-eqb _ 0 n) h)
+
+  add-stays-plain : (q : AddRequest) → q .hidden ≡ 0 → q .refresh ≡ 0 → withoutReserve (ordersOf (addCall q s .book)) ≡ true
+  unfolding addCall
+  add-stays-plain q a b =
+      decided (addCall q s .refusal) (withoutReserve (ordersOf (addCall q s .book)) ≡ true) (add-plain s p q a b) (λ n. rw (ne-eqb _ 0 n) p)
 
   reduce-keeps : (n shares : ℕ) → sound (reduceCall n shares s .book) ≡ true
   unfolding reduceCall
   reduce-keeps n shares =
       decided (reduceCall n shares s .refusal) (sound (reduceCall n shares s .book) ≡ true) (reduce-sound n shares s) (λ m. rw (ne-eqb _ 0 m) h)
 
+  reduce-stays-plain : (n shares : ℕ) → withoutReserve (ordersOf (reduceCall n shares s .book)) ≡ true
+  unfolding reduceCall
+  reduce-stays-plain n shares =
+      decided (reduceCall n shares s .refusal) (withoutReserve (ordersOf (reduceCall n shares s .book)) ≡ true) (reduce-plain s p n shares) (λ m. rw (ne-eqb _ 0 m) p)
+
   module _ (q : TakeRequest) (x : List ℕ) where
     take-keeps : sound (takeCall q s x .book) ≡ true
     unfolding takeCall
     take-keeps = decided (takeCall q s x .taken .refusal) (sound (takeCall q s x .book) ≡ true) (take-sound q s x) (λ n. rw (ne-eqb _ 0 n) h)
+
+    take-stays-plain : withoutReserve (ordersOf (takeCall q s x .book)) ≡ true
+    unfolding takeCall
+    take-stays-plain =
+        decided (takeCall q s x .taken .refusal) (withoutReserve (ordersOf (takeCall q s x .book)) ≡ true) (λ e. take-without-reserve q s x e p) (λ n. rw (ne-eqb _ 0 n) p)
 
     take-room : length x ≤ length (takeCall q s x .executions)
     unfolding takeCall written
@@ -90,7 +110,7 @@ module _ (s : List ℕ) (h : sound s ≡ true) where
     executions-fit : 16 * length (outcomeOf q (ordersOf s) .executions) ≤ 4096
     unfolding outcomeOf outcome
     executions-fit =
-        omega (arith, executions-most roundLot (algorithmOf (q .algorithm)) (incomingOf q) (ordersOf s) (orders-sound s h .rise), sound-fits s h .1)
+        omega (arith, executions-most roundLot (algorithmOf (q .algorithm)) (incomingOf q) (ordersOf s) (orders-sound s h .rise) p, sound-fits s h .1)
 
 silent-accepted : (n : ℕ) → Silent ≡ Refused n → ⊥
 silent-accepted n e = let z : _≡_ {A = ℕ} 0 1 = cc in omega arith
@@ -102,12 +122,21 @@ module _ (d : Desk) (r : Ready d) where
   -- the desk stays so
   pub stays-ready : (c : Command) → Ready (performed c d .desk)
   unfolding performed
-  stays-ready (Choose n) = record { book = r .book; room = r .room }
-  stays-ready (Add side kind number price size minimum) = record { book = add-keeps (d .book) (r .book) _; room = r .room }
-  stays-ready (Reduce number shares) = record { book = reduce-keeps (d .book) (r .book) number shares; room = r .room }
+  stays-ready (Choose n) = record { book = r .book; plain = r .plain; room = r .room }
+  stays-ready (Add side kind number price size minimum) = record {
+    book = add-keeps (d .book) (r .book) (r .plain) _;
+    plain = add-stays-plain (d .book) (r .book) (r .plain) _ refl refl;
+    room = r .room;
+  }
+  stays-ready (Reduce number shares) = record {
+    book = reduce-keeps (d .book) (r .book) (r .plain) number shares;
+    plain = reduce-stays-plain (d .book) (r .book) (r .plain) number shares;
+    room = r .room;
+  }
   stays-ready (Take side limit size) = record {
-    book = take-keeps (d .book) (r .book) _ (d .executions);
-    room = omega (arith, r .room, take-room (d .book) (r .book) (record { side = side; limit = limit; size = size; algorithm = d .algorithm }) (d .executions));
+    book = take-keeps (d .book) (r .book) (r .plain) _ (d .executions);
+    plain = take-stays-plain (d .book) (r .book) (r .plain) _ (d .executions);
+    room = omega (arith, r .room, take-room (d .book) (r .book) (r .plain) (record { side = side; limit = limit; size = size; algorithm = d .algorithm }) (d .executions));
   }
   stays-ready Nothing = r
 
@@ -130,7 +159,7 @@ module _ (d : Desk) (r : Ready d) where
   unfolding performed addCall reduceCall takeCall
   never-2 (Choose n) e = silent-accepted 2 e
   never-2 (Add side kind number price size minimum) e =
-      let q : AddRequest = record { side = side; kind = kind; number = number; price = price; size = size; minimum = minimum } in
+      let q : AddRequest = record { side = side; kind = kind; number = number; price = price; size = size; minimum = minimum; hidden = 0; refresh = 0 } in
       not-given 2 (λ z. omega arith) (adds q) (rw (r .book)) (was-given (adds q) 2 Silent (silent-accepted 2) e)
   never-2 (Reduce number shares) e =
       not-given 2 (λ z. omega arith) (reduces number shares) (rw (r .book)) (was-given (reduces number shares) 2 Silent (silent-accepted 2) e)
@@ -144,13 +173,13 @@ module _ (d : Desk) (r : Ready d) where
   unfolding performed addCall reduceCall takeCall
   never-8 (Choose n) e = silent-accepted 8 e
   never-8 (Add side kind number price size minimum) e =
-      let q : AddRequest = record { side = side; kind = kind; number = number; price = price; size = size; minimum = minimum } in
+      let q : AddRequest = record { side = side; kind = kind; number = number; price = price; size = size; minimum = minimum; hidden = 0; refresh = 0 } in
       not-given 8 (λ z. omega arith) (adds q) refl (was-given (adds q) 8 Silent (silent-accepted 8) e)
   never-8 (Reduce number shares) e =
       not-given 8 (λ z. omega arith) (reduces number shares) refl (was-given (reduces number shares) 8 Silent (silent-accepted 8) e)
   never-8 (Take side limit size) e =
       let q : TakeRequest = record { side = side; limit = limit; size = size; algorithm = d .algorithm } in
       let f = le-ltb (length (d .executions)) (16 * length (outcomeOf q (ordersOf (d .book)) .executions))
-      (omega (arith, r .room, executions-fit (d .book) (r .book) q (d .executions))) in
+      (omega (arith, r .room, executions-fit (d .book) (r .book) (r .plain) q (d .executions))) in
       not-given 8 (λ z. omega arith) (takes q) (rw f) (was-given (takes q) 8 (listed q) (listed-accepted _ _ 8) e)
   never-8 Nothing e = let z : _≡_ {A = ℕ} 1 8 = cc in omega arith

@@ -59,6 +59,8 @@ pub fn perform(
                 price,
                 size,
                 minimum,
+                hidden: 0,
+                refresh: 0,
             };
             let refusal = entry::add(book, request);
             let answer = refused_or(refusal, Answer::Silent);

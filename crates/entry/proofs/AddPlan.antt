@@ -63,7 +63,7 @@ module _ (q : AddRequest) (s : List ℕ) where
         add-full h = rw (e, b, n, t, le-leb (capacityOf s) (length (ordersOf s)) h)
 
         -- the order comes in, behind the others
-        add-admitted : length (ordersOf s) < capacityOf s → addPlan q s ≡ Admitted (32 * length (ordersOf s)) newOrder
+        add-admitted : length (ordersOf s) < capacityOf s → addPlan q s ≡ Admitted (40 * length (ordersOf s)) newOrder
         unfolding addPlan addCall
         add-admitted h = rw (e, b, n, t, lt-leb (capacityOf s) (length (ordersOf s)) h)
 
@@ -96,7 +96,7 @@ module _ (q : AddRequest) (s : List ℕ) (e : requestInRange q ≡ true) (b : so
 
       -- it comes in
       pub order-admitted : m < capacityOf s → (o : Order)
-          → o ≡ requested q (isDisplayed (new .kind) && leb roundLot (interestOf new .displayed) && st .beats) → Admitted (32 * m) o ≡ addPlan q s
+          → o ≡ requested q (isDisplayed (new .kind) && leb roundLot (interestOf new .displayed) && st .beats) → Admitted (40 * m) o ≡ addPlan q s
       unfolding setsPrice
       order-admitted h o i =
           let d = add-admitted q s e b (sym stale ∙ n) (sym trades ∙ t) (omega arith) in
@@ -130,12 +130,12 @@ module _ (q : AddRequest) (s : List ℕ) where
   unfolding addPlan addCall
   plan-refused r e =
       let c = refusalOf (addRefusals q (capacityOf s) (ordersOf s)) s in
-      let h = refused c (32 * length (ordersOf s)) (newOrder q s) r e in
+      let h = refused c (40 * length (ordersOf s)) (newOrder q s) r e in
       rw (h .0) (refuses c s (bookOf (capacityOf s) (added roundLot q (ordersOf s))) (h .1))
 
   -- An accepted add.
   module _ (e : addCall q s .refusal ≡ 0) where
-    written : Writes (addCall q s) s (32 * length (ordersOf s)) (newOrder q s)
+    written : Writes (addCall q s) s (40 * length (ordersOf s)) (newOrder q s)
     unfolding addCall added
     written =
         let b = add-accepted q s e .book in
@@ -151,5 +151,5 @@ module _ (q : AddRequest) (s : List ℕ) where
   pub plan-admitted : (at : ℕ) (o : Order) → Admitted at o ≡ addPlan q s → Writes (addCall q s) s at o
   unfolding addPlan
   plan-admitted at o e =
-      let h = admitted (addCall q s .refusal) (32 * length (ordersOf s)) (newOrder q s) at o e in
+      let h = admitted (addCall q s .refusal) (40 * length (ordersOf s)) (newOrder q s) at o e in
       rw (h .1, h .2) (written (h .0))

@@ -14,14 +14,14 @@ use Rattle.units.proofs.Facts.{chain-true}
 use Rattle.orders.specs.declared.order.Side.{Side}
 use Rattle.orders.specs.declared.order.Side.the-variants.{Buy, Sell}
 use Rattle.orders.specs.declared.order.Order.{Order}
-use Rattle.orders.specs.Order.{sideNumber, sideOf, kindOf, isDisplayed, priceOf, interestOf}
+use Rattle.orders.specs.Order.{sideNumber, sideOf, isDisplayed, priceOf, interestOf}
 use Rattle.orders.specs.Trading.{isOpposite, isPricedBetter}
 use Rattle.record.proofs.Orders.{OrderSound, order-facts}
 use Rattle.book.specs.Sound.{sameSetter, sound, ordersOf, capacityOf}
 use Rattle.book.proofs.Soundness.{OrdersSound, orders-sound}
 use Rattle.book.proofs.Settlement.{append-sound}
 use Rattle.book.proofs.Refusing.{Accepted, accepted}
-use Rattle.book.proofs.Changing.{changed-sound}
+use Rattle.book.proofs.Changing.{changed-orders, changed-sound}
 use Rattle.entry.proofs.Requests.{requested-sound}
 use Rattle.entry.specs.declared.admission.AddRequest.{AddRequest}
 use Rattle.entry.specs.Add.{requestInRange, requested, beats, setsPrice, isStale, addRefusals, added, addCall}
@@ -46,8 +46,8 @@ module _ (lot : ℕ) (q : AddRequest) (os : List Order) where
   abbrev sets : Bool
   sets = setsPrice lot (requested q false) os
 
-  sets-facts : sets ≡ true → (isDisplayed (kindOf (q .kind) (q .minimum)) ≡ true) × (all (beats (requested q false)) os ≡ true)
-  unfolding setsPrice requested
+  sets-facts : sets ≡ true → (isDisplayed (requested q false .kind) ≡ true) × (all (beats (requested q false)) os ≡ true)
+  unfolding setsPrice
   sets-facts e =
       let new = requested q false in
       let t = chain-true (isDisplayed (new .kind)) (leb lot (interestOf new .displayed) ∷ all (beats new) os ∷ []) e in
@@ -68,7 +68,7 @@ module _ (lot : ℕ) (q : AddRequest) (os : List Order) where
 
   -- an order in range that is not stale is added to sound orders, which stay sound
   pub added-sound : OrdersSound os → requestInRange q ≡ true → isStale (q .number) os ≡ false → OrdersSound (added lot q os)
-  unfolding added
+  unfolding added requested
   added-sound h e n =
       append-sound (requested q sets) os h (requested-sound q e sets (λ f. sets-facts f .0))
       (member-every (λ p. p .number < requested q sets .number) os (above n))
@@ -92,6 +92,11 @@ module _ (q : AddRequest) (s : List ℕ) (e : addCall q s .refusal ≡ 0) where
   room =
       let n = length-append (ordersOf s) (requested q (sets roundLot q (ordersOf s)) ∷ []) in
       omega (arith, leb-false (capacityOf s) (length (ordersOf s)) (add-accepted .ofBook .1 .1 .0))
+
+  -- the book has them
+  pub add-orders : ordersOf (addCall q s .book) ≡ added roundLot q (ordersOf s)
+  unfolding addCall
+  add-orders = changed-orders (addCall q s .refusal) s (added roundLot q (ordersOf s)) e (add-accepted .book) add-orders-sound room
 
   -- the book is sound
   pub add-sound : sound (addCall q s .book) ≡ true

@@ -21,19 +21,19 @@ module _ (s : List ℕ) (n : ℕ) (new : Order) where
 
   -- the answers so far, with those of the orders left from byte `at` on, are the answers of all n
   pub record Compared (stale trades best : Bool) (at left : ℕ) : Type 0 where
-    pub within : at + 32 * left ≤ length s
+    pub within : at + 40 * left ≤ length s
     pub later : (stale || any isLater (firstOrders left (drop at s))) ≡ any isLater (firstOrders n s)
     pub tradable : (trades || any (couldTrade new) (firstOrders left (drop at s))) ≡ any (couldTrade new) (firstOrders n s)
     pub beaten : (best && all (beats new) (firstOrders left (drop at s))) ≡ all (beats new) (firstOrders n s)
 
   -- before the first order
-  pub compared-none : 32 * n ≤ length s → Compared false false true 0 n
+  pub compared-none : 40 * n ≤ length s → Compared false false true 0 n
   compared-none h = record { within = omega arith; later = refl; tradable = refl; beaten = refl }
 
   module _ {stale trades best : Bool} {at left : ℕ} (c : Compared stale trades best at left) where
     -- after one order more
-    pub compared-more : 0 < left → (o : Order) → o ≡ decodeOrder form (take 32 (drop at s))
-        → Compared (stale || isLater o) (trades || couldTrade new o) (best && beats new o) (at + 32) (left - 1)
+    pub compared-more : 0 < left → (o : Order) → o ≡ decodeOrder form (take 40 (drop at s))
+        → Compared (stale || isLater o) (trades || couldTrade new o) (best && beats new o) (at + 40) (left - 1)
     compared-more h o q = record {
       within = omega arith;
       later = or-more s at left h o q isLater stale ∙ c .later;

@@ -11,10 +11,11 @@ use Rattle.units.specs.Lists.{any, filter, consIf}
 use Rattle.units.proofs.Tests.{and-true, false-and, or-false}
 use Rattle.units.proofs.Members.{Every}
 use Rattle.orders.specs.declared.order.Order.{Order}
-use Rattle.orders.specs.Order.{interestOf, allShares, sizeOf, isResting, sharesInRange, numberInRange}
+use Rattle.orders.specs.Order.{interestOf, allShares, isResting, sharesInRange, numberInRange}
 use Rattle.record.specs.Codec.{replaced}
 use Rattle.record.specs.Record.{encodeOrder, decodeOrder}
-use Rattle.record.proofs.Orders.{OrderSound, order-facts}
+use Rattle.record.proofs.Orders.{OrderSound}
+use Rattle.record.proofs.Settling.{sound-rests}
 use Rattle.book.specs.Sound.{form, sound, ordersOf, bookOf, capacityOf}
 use Rattle.book.specs.declared.Checked.{Checked}
 use Rattle.book.specs.declared.Found.{Found}
@@ -40,7 +41,7 @@ module _ (n shares : ℕ) where
 
   -- a sound order stays as it is unless it has the number
   stays : (o : Order) (os : List Order) → OrderSound o → hasNumber n o ≡ false → filter isResting (each o ∷ os) ≡ o ∷ filter isResting os
-  stays o os h e = rw (e, lt-ltb 0 (sizeOf o) (order-facts o h .size-least))
+  stays o os h e = rw (e, sound-rests o h)
 
   all-stay : (os : List Order) → Every OrderSound os → any (hasNumber n) os ≡ false → filter isResting (map each os) ≡ os
   all-stay [] h e = refl
@@ -106,7 +107,7 @@ module _ (n shares : ℕ) (s : List ℕ) (h : (numberInRange n && sharesInRange 
   unfolding reducePlan
   reduce-not-found f = rw (not-found f, ne-eqb (findCall n s .refusal) 0 f)
 
-  module _ (e : findCall n s .refusal ≡ 0) (o : Order) (its : o ≡ decodeOrder form (take 32 (drop (findCall n s .start) s))) where
+  module _ (e : findCall n s .refusal ≡ 0) (o : Order) (its : o ≡ decodeOrder form (take 40 (drop (findCall n s .start) s))) where
     same-found : decodeOrder form (foundPart (findCall n s) s) ≡ o
     same-found = ap (decodeOrder form) (found-part n s e) ∙ sym its
 
@@ -140,12 +141,12 @@ module _ (n shares : ℕ) (s : List ℕ) (h : (numberInRange n && sharesInRange 
     accepts = sym (ap (λ x. x .refusal) q) ∙ e
 
     -- a record is there
-    pub order-inside : f .start + 32 ≤ length s
+    pub order-inside : f .start + 40 ≤ length s
     order-inside = omega (arith, ap (λ x. x .start) q, find-inside n s accepts)
 
-    module _ (o : Order) (r : o ≡ decodeOrder form (take 32 (drop (f .start) s))) where
-      its : o ≡ decodeOrder form (take 32 (drop (findCall n s .start) s))
-      its = r ∙ ap (λ x. decodeOrder form (take 32 (drop (x .start) s))) q
+    module _ (o : Order) (r : o ≡ decodeOrder form (take 40 (drop (f .start) s))) where
+      its : o ≡ decodeOrder form (take 40 (drop (findCall n s .start) s))
+      its = r ∙ ap (λ x. decodeOrder form (take 40 (drop (x .start) s))) q
 
       -- more shares than the order has
       pub too-much-refused : allShares (interestOf o) < shares → Refused 7 ≡ reducePlan n shares s

@@ -1,23 +1,50 @@
--- An accepted reduce leaves a sound book with the named order reduced.
-use Prim.Native.Nat.{ℕ, _≤_}
-use mathlib.Core.Path.{_≡_, refl, sym, ap, ap₂, subst⁻¹}
+-- A reduce never refreshes, and an accepted one leaves a sound book with the named order reduced.
+use Prim.Native.Nat.{ℕ, zero, suc, _-_, _≤_, _<_, min}
+use mathlib.Core.Path.{_≡_, refl, sym, ap, ap₂, subst⁻¹, _∙_}
 use mathlib.Core.Bool.{Bool, true, false, cond}
 use mathlib.Core.List.{List, [], _∷_, map}
 use native.Mathlib.Omega.{arith}
 use lib.ListN.{length}
 use Rattle.units.specs.Lists.{filter, zipWith}
 use Rattle.units.proofs.Members.{Every}
+use Rattle.orders.specs.declared.order.Kind.{Kind}
+use Rattle.orders.specs.declared.order.Kind.the-variants.{Displayed, NonDisplayed, MinimumQuantity, Reserve}
 use Rattle.orders.specs.declared.order.Order.{Order}
-use Rattle.orders.specs.Order.{Interest, noInterest, interestOf, settled, isResting}
-use Rattle.record.proofs.Orders.{OrderSound}
+use Rattle.orders.specs.Order.{Interest, interest, noInterest, less, interestBy, interestOf, sizeOf, refreshed, sizeFrom, kindFrom, withInterest, settled, isResting}
+use Rattle.orders.proofs.Interests.{refreshed-some}
+use Rattle.record.proofs.Orders.{OrderSound, order-facts}
 use Rattle.record.proofs.Settling.{settled-nothing}
 use Rattle.book.specs.Sound.{sound, ordersOf, capacityOf}
 use Rattle.book.specs.Lookup.{hasNumber}
 use Rattle.book.proofs.Soundness.{OrdersSound, orders-sound, orders-fit}
 use Rattle.book.proofs.Settlement.{settle-sound, settle-fewer}
 use Rattle.book.proofs.Refusing.{Accepted, accepted}
-use Rattle.book.proofs.Changing.{changed-sound}
+use Rattle.book.proofs.Changing.{changed-orders, changed-sound}
 use Rattle.entry.specs.Reduce.{reduceRefusals, reduction, reducedIf, reduced, reduceCall}
+
+-- nothing is shown anew where something is shown or nothing is hidden
+not-refreshed : (r s h : ℕ) → (s ≡ 0 → h ≡ 0) → refreshed r (interest s h) ≡ interest s h
+not-refreshed r zero h k = let e = k refl in ap₂ interest (omega arith) (omega arith)
+not-refreshed r (suc s) h k = sym (refreshed-some r (suc s) h (λ e. omega arith))
+
+reduced-by : (shares : ℕ) (k : Kind) (size : ℕ) → 1 ≤ size
+    → let i = less (interestBy k size) (reduction shares (interestBy k size)) in
+    interestBy (kindFrom k i) (sizeFrom k i) ≡ i
+reduced-by shares Displayed size l = ap₂ interest refl (omega arith)
+reduced-by shares NonDisplayed size l = ap₂ interest (omega arith) refl
+reduced-by shares (MinimumQuantity m) size l = ap₂ interest (omega arith) refl
+reduced-by shares (Reserve h r) size l = not-refreshed (r .0) (size - (shares - min shares (h .0))) (h .0 - min shares (h .0)) (λ e. omega arith)
+
+module _ (shares : ℕ) (o : Order) (e : OrderSound o) where
+  -- A reduce never refreshes: a sound order is left with what it showed and what it hid, each less what it loses.
+  pub reduce-leaves : interestOf (settled (reduction shares (interestOf o)) o) ≡ less (interestOf o) (reduction shares (interestOf o))
+  unfolding settled withInterest
+  reduce-leaves = reduced-by shares (o .kind) (sizeOf o) (order-facts o e .size-least)
+
+  -- it shows fewer shares than before only where it hides none
+  pub reduce-hides-none : interestOf (settled (reduction shares (interestOf o)) o) .displayed < interestOf o .displayed
+      → interestOf (settled (reduction shares (interestOf o)) o) .nonDisplayed ≡ 0
+  reduce-hides-none = rw reduce-leaves (λ l. omega arith)
 
 module _ (n shares : ℕ) where
   -- what each order loses: only the named one loses shares
@@ -54,6 +81,12 @@ module _ (n shares : ℕ) where
 
     room : length (reduced n shares (ordersOf s)) ≤ capacityOf s
     room = omega (arith, ap length settling, settle-fewer (map reductionOf (ordersOf s)) (ordersOf s), orders-fit s)
+
+    -- the book has them
+    pub reduce-orders : ordersOf (reduceCall n shares s .book) ≡ filter isResting (zipWith settled (map reductionOf (ordersOf s)) (ordersOf s))
+    unfolding reduceCall
+    reduce-orders =
+        changed-orders (reduceCall n shares s .refusal) s (reduced n shares (ordersOf s)) e (reduce-accepted .book) reduce-orders-sound room ∙ settling
 
     -- the book is sound
     pub reduce-sound : sound (reduceCall n shares s .book) ≡ true

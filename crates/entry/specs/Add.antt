@@ -3,44 +3,46 @@ use Prim.Native.Nat.{ℕ}
 use mathlib.Core.Bool.{Bool, false, not, _&&_, _||_}
 use mathlib.Core.List.{List, [], _∷_, _++_}
 use lib.ListN.{length}
-use lib.Dec.{leb}
+use lib.Dec.{leb, eqb}
 use Rattle.units.specs.Lists.{all, any, inRange}
 use Rattle.units.specs.Lots.{roundLot}
 use Rattle.orders.specs.declared.order.Order.{Order}
 use Rattle.orders.specs.Order.{sideOf, kindOf, minimumOf, isDisplayed, priceOf, interestOf, allShares}
-use Rattle.orders.specs.Order.{numberInRange, priceInRange, sharesInRange, minimumInRange}
+use Rattle.orders.specs.Order.{numberInRange, priceInRange, sharesInRange, minimumInRange, reserveInRange}
 use Rattle.orders.specs.Trading.{isOpposite, isPricedBetter, isTradable, asTaker}
 use Rattle.entry.specs.declared.admission.AddRequest.{AddRequest}
 use Rattle.book.specs.Sound.{ordersOf, bookOf, capacityOf}
 use Rattle.book.specs.Refusal.{Refusals, refuse, refusalOf, Changed, changedUnless}
 
--- the numbers that add is given are in their ranges, the minimum by the kind
+-- the numbers that add is given are in their ranges, the last three by the kind; add wants shown equal to refresh of a reserve order
 abbrev pub requestInRange : AddRequest → Bool
 requestInRange q =
-    inRange 1 2 (q .side) && inRange 1 3 (q .kind) && numberInRange (q .number) && priceInRange (q .price)
-    && sharesInRange (q .size) && minimumInRange (q .kind) (q .size) (q .minimum)
+    inRange 1 2 (q .side) && inRange 1 4 (q .kind) && numberInRange (q .number) && priceInRange (q .price)
+    && sharesInRange (q .size) && minimumInRange (q .kind) (q .size) (q .minimum) && reserveInRange (q .kind) (q .hidden) (q .refresh)
+    && (not (eqb (q .kind) 4) || eqb (q .refresh) (q .size))
 
 -- the order that is asked for, with or without the setter mark
 unfoldable pub requested : AddRequest → Bool → Order
 requested q setter = record {
   side = sideOf (q .side);
-  kind = kindOf (q .kind) (q .minimum);
+  kind = kindOf (q .kind) (q .minimum) (q .hidden) (q .refresh);
   number = q .number;
   price = record { 0 = q .price };
   size = record { 0 = q .size };
   setter = setter;
 }
 
--- o is no displayed order on the new order's side, or the new order is priced strictly better
+-- o is no displayed order on the new order's side, a reserve order counted as one, or the new order is priced strictly better
 abbrev pub beats : Order → Order → Bool
 beats new o = isOpposite (new .side) (o .side) || not (isDisplayed (o .kind)) || isPricedBetter (new .side) (priceOf new) (priceOf o)
 
--- An order sets the price when it is displayed, has a round lot or more, and is priced strictly better than every displayed order on
--- its side; so it does where there is none.
+-- An order sets the price when it is displayed, shows a round lot or more, and is priced strictly better than every displayed order on
+-- its side; so it does where there is none. Shares that a reserve order hides don't count.
 unfoldable pub setsPrice : ℕ → Order → List Order → Bool
 setsPrice lot new os = isDisplayed (new .kind) && leb lot (interestOf new .displayed) && all (beats new) os
 
--- the new order could trade with o: o is on the other side within its price, and o's minimum, if it has one, isn't above the new size
+-- the new order could trade with o: o is on the other side within its price, and o's minimum, if it has one, isn't above the new order's
+-- shares, shown and hidden
 abbrev pub couldTrade : Order → Order → Bool
 couldTrade new o = isTradable (asTaker new) o && leb (minimumOf (o .kind)) (allShares (interestOf new))
 

@@ -10,7 +10,7 @@ use Rattle.book.specs.Sound.{ordersOf, bookOf, capacityOf}
 use Rattle.book.specs.Refusal.{Refusals, refuse, refusalOf, Changed, changedUnless}
 use Rattle.book.specs.Lookup.{hasNumber, isUnknown}
 
--- refusal 7: more shares than the order has
+-- refusal 7: more shares than the order has, shown and hidden
 abbrev pub asksTooMuch : ℕ → ℕ → Order → Bool
 asksTooMuch n shares o = hasNumber n o && ltb (allShares (interestOf o)) shares
 
@@ -21,7 +21,7 @@ reduceRefusals n shares os = record {
   ofBook = refuse 3 (isUnknown n os) ∷ refuse 7 (any (asksTooMuch n shares) os) ∷ [];
 }
 
--- what an order loses of each kind of interest: the non-displayed first, though no kind of order has both
+-- what an order loses of each kind of interest: the non-displayed first
 abbrev pub reduction : ℕ → Interest → Interest
 reduction shares i = let n = min shares (i .nonDisplayed) in interest (shares - n) n
 

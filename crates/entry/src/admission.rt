@@ -6,17 +6,22 @@ use orders::order::Order;
 use orders::order::Side;
 use orders::range;
 use orders::trading;
+use record::order_record::Numbers;
 use units::Price;
 use units::Shares;
 ghost use mathlib.Core.Path.{_≡_};
 ghost use mathlib.Core.Bool.{true};
-ghost use Prim.Native.Nat.{_*_, _≤_};
+ghost use mathlib.Core.List.{List};
+ghost use Prim.Native.Nat.{ℕ, _*_, _≤_};
 ghost use lib.ListN.{length};
+ghost use Rattle.orders.specs.Order.{interestOf, allShares};
+ghost use Rattle.record.specs.Record.{orderOf};
+ghost use Rattle.record.specs.Names.{namedNumbers};
 ghost use Rattle.book.specs.Sound.{sound, ordersOf, firstOrders};
 ghost use Rattle.entry.specs.Add.{requestInRange, requested, beats, couldTrade};
 ghost use Rattle.entry.specs.Plan.{standingOf, addPlan};
 
-// The numbers that add is given.
+// The numbers that add is given. The size of a reserve order is the shares that it shows.
 #[repr(C)]
 pub struct AddRequest {
     pub side: u32,
@@ -25,6 +30,8 @@ pub struct AddRequest {
     pub price: u32,
     pub size: u32,
     pub minimum: u32,
+    pub hidden: u32,
+    pub refresh: u32,
 }
 
 // A refusal, or the order that comes in and where its record goes.
@@ -41,16 +48,18 @@ pub struct Standing {
     pub beats: bool,
 }
 
-// Whether the numbers are in their ranges.
+// Whether the numbers are in their ranges. A reserve order comes in with as many shares shown as its refresh size.
 pub fn in_range(q: AddRequest) -> bool
     ensures { λ r. ⌜ r ≡ requestInRange q ⌝ }
 {
     units::in_range(1, 2, q.side)
-        & units::in_range(1, 3, q.kind)
+        & units::in_range(1, 4, q.kind)
         & range::number_in_range(q.number)
         & range::price_in_range(q.price)
         & range::shares_in_range(q.size)
         & range::minimum_in_range(q.kind, q.size, q.minimum)
+        & range::reserve_in_range(q.kind, q.hidden, q.refresh)
+        & (!(q.kind == 4) | (q.refresh == q.size))
 }
 
 // The order that is asked for, with or without the setter mark.
@@ -59,7 +68,7 @@ fn requested(q: AddRequest, setter: bool) -> Order
 {
     Order {
         side: Side::of(q.side),
-        kind: Kind::of(q.kind, q.minimum),
+        kind: Kind::of(q.kind, q.minimum, q.hidden, q.refresh),
         number: q.number,
         price: Price(q.price),
         size: Shares(q.size),
@@ -67,31 +76,33 @@ fn requested(q: AddRequest, setter: bool) -> Order
     }
 }
 
-// Whether the new order could trade with a resting one: that is on the other side within its price, with no minimum above the new size.
-fn could_trade(new: Order, resting: Order) -> bool
-    ensures { λ r. ⌜ r ≡ couldTrade new resting ⌝ }
-{
-    let kind = resting.kind;
-    let minimum = kind.minimum();
-    let shares = new.shares();
-    trading::is_tradable(trading::as_taker(new), resting) & (minimum.0 <= shares.0)
-}
-
-// Whether a resting order keeps no setter mark from the new one: it is no displayed order of its side, or the new one's price is better.
-fn beats(new: Order, resting: Order) -> bool
-    ensures { λ r. ⌜ r ≡ beats new resting ⌝ }
+// Whether the new order, of so many shares, shown and hidden, could trade with the resting one of a record's numbers: that is on the other
+// side within its price, with no minimum above these shares.
+fn could_trade(new: Order, shares: Shares, resting: Numbers) -> bool
+    ensures { λ r. ⌜ ((ns : List ℕ) → resting ≡ namedNumbers ns → shares .0 ≡ allShares (interestOf new) → r ≡ couldTrade new (orderOf ns)) ⌝ }
 {
     let side = new.side;
-    let other = resting.side;
-    let kind = resting.kind;
-    let p = new.price;
-    let q = resting.price;
-    trading::is_opposite(side, other) | !kind.is_displayed() | trading::is_priced_better(side, p, q)
+    let limit = new.price;
+    trading::is_opposite(side, Side::of(resting.side))
+        & trading::within_limit(side, limit, Price(resting.price))
+        & (!(resting.kind == 3) | (resting.minimum <= shares.0))
 }
 
-// How the new order stands to the first n orders of the book.
-fn standing_in(book: &[u8], n: usize, new: Order) -> Standing
-    requires { ⌜ 32 * n ≤ length (now book) ⌝ }
+// Whether the resting order of a record's numbers keeps no setter mark from the new one: it is no displayed order of its side, or the new
+// one's price is better.
+fn beats(new: Order, resting: Numbers) -> bool
+    ensures { λ r. ⌜ ((ns : List ℕ) → resting ≡ namedNumbers ns → r ≡ beats new (orderOf ns)) ⌝ }
+{
+    let side = new.side;
+    let price = new.price;
+    trading::is_opposite(side, Side::of(resting.side))
+        | ((resting.kind == 2) | (resting.kind == 3))
+        | trading::is_priced_better(side, price, Price(resting.price))
+}
+
+// How the new order, of so many shares, shown and hidden, stands to the first n orders of the book.
+fn standing_in(book: &[u8], n: usize, new: Order, shares: Shares) -> Standing
+    requires { ⌜ (40 * n ≤ length (now book)) × (shares .0 ≡ allShares (interestOf new)) ⌝ }
     ensures { λ r. ⌜ r ≡ standingOf new (firstOrders n (now (book .entry))) ⌝ }
 {
     let mut stale = false;
@@ -100,10 +111,10 @@ fn standing_in(book: &[u8], n: usize, new: Order) -> Standing
     let mut at = 0;
     let mut left = n;
     while 0 < left {
-        let order = records::order_at(book, at);
-        stale = stale | (new.number <= order.number);
-        trades = trades | could_trade(new, order);
-        best = best & beats(new, order);
+        let resting = records::numbers_at(book, at);
+        stale = stale | (new.number <= resting.number);
+        trades = trades | could_trade(new, shares, resting);
+        best = best & beats(new, resting);
         at += RECORD_BYTES;
         left -= 1;
     }
@@ -121,7 +132,8 @@ pub fn decide(book: &[u8], n: usize, request: AddRequest) -> Admission
     ensures { λ r. ⌜ r ≡ addPlan request (now (book .entry)) ⌝ }
 {
     let new = requested(request, false);
-    let found = standing_in(book, n, new);
+    let shares = request.size + request.hidden;
+    let found = standing_in(book, n, new, Shares(shares));
     let stale = found.stale;
     let trades = found.trades;
     if stale {

@@ -38,8 +38,7 @@ fn reduced(order: Order, shares: Shares) -> Order
 fn outcome(start: usize, left: Order) -> Reduction
     ensures { λ r. ⌜ r ≡ outcomeOf start left ⌝ }
 {
-    let size = left.size;
-    if 0 < size.0 {
+    if left.rests() {
         Reduction::Kept(start, left)
     } else {
         Reduction::Gone(start)
@@ -59,8 +58,7 @@ pub fn decide(book: &[u8], n: usize, number: u32, shares: u32) -> Reduction
     }
     let start = found.start;
     let order = records::order_at(book, start);
-    let has = order.shares();
-    if has.0 < shares {
+    if !order.has(Shares(shares)) {
         return Reduction::Refused(7);
     }
     outcome(start, reduced(order, Shares(shares)))

@@ -82,7 +82,7 @@ fn serve(line: &[u8], book: &mut [u8], executions: &mut [u8], algorithm: u32) ->
 
 // Each line of a sheet in turn, on an empty book of 256 records.
 fn run(sheet: &[u8]) {
-    let mut book = [0u8; 8192];
+    let mut book = [0u8; 10240];
     let mut executions = [0u8; 4096];
     let mut algorithm = 1;
     let mut at = 0;

@@ -11,9 +11,9 @@ use Rattle.units.proofs.Members.{Every, every-weaken}
 use Rattle.orders.specs.declared.order.Side.{Side}
 use Rattle.orders.specs.declared.order.Side.the-variants.{Buy, Sell}
 use Rattle.orders.specs.declared.order.Kind.{Kind}
-use Rattle.orders.specs.declared.order.Kind.the-variants.{Displayed, NonDisplayed, MinimumQuantity}
+use Rattle.orders.specs.declared.order.Kind.the-variants.{Displayed, NonDisplayed, MinimumQuantity, Reserve}
 use Rattle.orders.specs.declared.order.Order.{Order}
-use Rattle.orders.specs.Order.{sideNumber, interestBy}
+use Rattle.orders.specs.Order.{sideNumber, interestBy, hiddenOf}
 use Rattle.record.proofs.Forms.{length-encode, decode-encode}
 use Rattle.record.proofs.Numbers.{Fits}
 use Rattle.record.proofs.Rows.{side-of}
@@ -41,18 +41,19 @@ amounts-joined m n a b x y = record {
   orders = omega (arith, x .orders, y .orders);
 }
 
--- the shares of an order of each kind are at most its size
-shares-within : (k : Kind) (n : ℕ) → (interestBy k n .displayed ≤ n) × (interestBy k n .nonDisplayed ≤ n)
-shares-within Displayed n = (omega arith, omega arith)
-shares-within NonDisplayed n = (omega arith, omega arith)
-shares-within (MinimumQuantity m) n = (omega arith, omega arith)
+-- the displayed shares of an order of each kind are at most its size, and the others at most that or what it hides
+shares-within : (k : Kind) (n most : ℕ) → n ≤ most → hiddenOf k ≤ most → (interestBy k n .displayed ≤ most) × (interestBy k n .nonDisplayed ≤ most)
+shares-within Displayed n most h b = (omega arith, omega arith)
+shares-within NonDisplayed n most h b = (omega arith, omega arith)
+shares-within (MinimumQuantity m) n most h b = (omega arith, omega arith)
+shares-within (Reserve u r) n most h b = (h, b)
 
 -- the row of a sound order alone
 pub amounts-one : (o : Order) → OrderSound o → Amounts 1 (rowOf o)
 unfolding rowOf
 amounts-one o h =
-    let s = shares-within (o .kind) (o .size .0) in
-    let m = order-facts o h .size-most in
+    let f = order-facts o h in
+    let s = shares-within (o .kind) (o .size .0) 999999 (f .size-most) (f .hidden-most) in
     record { displayed = omega (arith, s .0); other = omega (arith, s .1); orders = omega arith }
 
 -- of no more orders

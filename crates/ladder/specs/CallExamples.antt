@@ -25,10 +25,10 @@ use Rattle.ladder.specs.Seen.{seenOf}
 
 -- order 7, a displayed sell of 500 at 100100, and order 9, a hidden one of 400 at 100000
 add : ℕ → ℕ → ℕ → ℕ → ℕ → List ℕ → List ℕ → Kept
-add side kind n price size s l = addLadderCall (record { side = side; kind = kind; number = n; price = price; size = size; minimum = 0 }) s l
+add side kind n price size s l = addLadderCall (record { side = side; kind = kind; number = n; price = price; size = size; minimum = 0; hidden = 0; refresh = 0 }) s l
 
 empty : Kept
-empty = record { refusal = 0; book = replicate 96 0; ladder = replicate 6144 0 }
+empty = record { refusal = 0; book = replicate 120 0; ladder = replicate 6144 0 }
 
 one : Kept
 one = add 2 1 7 100100 500 (empty .book) (empty .ladder)
@@ -68,7 +68,7 @@ wrong = set (two .ladder) 6143 1
 
 -- a byte behind the orders is not zero
 unsound : List ℕ
-unsound = set (two .book) 95 1
+unsound = set (two .book) 119 1
 
 -- the new call: 2 before 9, and never 10
 new-worked : all (λ b. b)

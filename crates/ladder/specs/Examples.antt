@@ -9,7 +9,7 @@ use Rattle.units.specs.Lists.{all, flatMap, sameNumbers}
 use Rattle.orders.specs.declared.order.Side.{Side}
 use Rattle.orders.specs.declared.order.Side.the-variants.{Buy, Sell}
 use Rattle.orders.specs.declared.order.Kind.{Kind}
-use Rattle.orders.specs.declared.order.Kind.the-variants.{Displayed, NonDisplayed, MinimumQuantity}
+use Rattle.orders.specs.declared.order.Kind.the-variants.{Displayed, NonDisplayed, MinimumQuantity, Reserve}
 use Rattle.orders.specs.declared.order.Order.{Order}
 use Rattle.record.specs.Codec.{encode, decode}
 use Rattle.record.specs.Record.{numbersOf}
@@ -75,6 +75,12 @@ kinds-worked : all (λ b. b)
     sameNumbers (form.numbersOf (rowOf (order Sell (MinimumQuantity (record { 0 = 50 })) 1 5 300))) (2 ∷ 0 ∷ 5 ∷ 0 ∷ 300 ∷ 1 ∷ 0 ∷ []) ∷ []) ≡ true
 unfolding order rowOf
 kinds-worked = refl
+
+-- an order of kind 4 is counted once, with what it shows displayed and what it hides other
+reserve-worked : sameNumbers (form.numbersOf (rowOf (order Sell (Reserve (record { 0 = 250 }) (record { 0 = 100 })) 1 5 60)))
+    (2 ∷ 0 ∷ 5 ∷ 60 ∷ 250 ∷ 1 ∷ 0 ∷ []) ≡ true
+unfolding order rowOf
+reserve-worked = refl
 
 -- three orders of one level in one row
 level : List Order

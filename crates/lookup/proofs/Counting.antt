@@ -16,13 +16,13 @@ use Rattle.lookup.proofs.Marks.{apart}
 -- From byte `at` on, with n orders to go.
 module _ (s : List ℕ) (at n : ℕ) where
   -- The first order, as it is read.
-  module _ (h : 0 < n) (o : Order) (q : o ≡ decodeOrder form (take 32 (drop at s))) where
+  module _ (h : 0 < n) (o : Order) (q : o ≡ decodeOrder form (take 40 (drop at s))) where
     -- where it is marked, one more is than of those behind it
-    pub marked-more : o .setter ≡ true → markedIn (firstOrders n (drop at s)) ≡ suc (markedIn (firstOrders (n - 1) (drop (at + 32) s)))
+    pub marked-more : o .setter ≡ true → markedIn (firstOrders n (drop at s)) ≡ suc (markedIn (firstOrders (n - 1) (drop (at + 40) s)))
     marked-more e = ap markedIn (orders-read s at n h o q) ∙ rw e
 
     -- where it is not, as many are
-    pub marked-same : o .setter ≡ false → markedIn (firstOrders n (drop at s)) ≡ markedIn (firstOrders (n - 1) (drop (at + 32) s))
+    pub marked-same : o .setter ≡ false → markedIn (firstOrders n (drop at s)) ≡ markedIn (firstOrders (n - 1) (drop (at + 40) s))
     marked-same e = ap markedIn (orders-read s at n h o q) ∙ rw e
 
   -- where there are no orders, none is marked

@@ -21,12 +21,12 @@ use Rattle.lookup.proofs.Marks.{fresh, fresh-none, fresh-unmarked, fres
 pub record Gathered (s : List ℕ) (n : ℕ) (keys : List ℕ) (m at left : ℕ) : Type 0 where
   pub few : m + left ≤ 256
   pub room : length keys ≡ 256
-  pub within : at + 32 * left ≤ length s
+  pub within : at + 40 * left ≤ length s
   pub apart : fresh (take m keys) (firstOrders left (drop at s)) ≡ settersSound (firstOrders n s)
 
 module _ {s : List ℕ} {n : ℕ} {keys : List ℕ} where
   -- before the first order there is no key
-  pub gathered-none : 32 * n ≤ length s → n ≤ 256 → length keys ≡ 256 → Gathered s n keys 0 0 n
+  pub gathered-none : 40 * n ≤ length s → n ≤ 256 → length keys ≡ 256 → Gathered s n keys 0 0 n
   gathered-none h l e = record { few = omega arith; room = e; within = omega arith; apart = fresh-none (firstOrders n s) }
 
   module _ {m at left : ℕ} (g : Gathered s n keys m at left) where
@@ -35,15 +35,15 @@ module _ {s : List ℕ} {n : ℕ} {keys : List ℕ} where
     gathered-done h = sym (ap (fresh (take m keys)) (orders-done s at left h)) ∙ g .apart
 
     -- The next order, as it is read.
-    module _ (h : 0 < left) {o : Order} (q : o ≡ decodeOrder form (take 32 (drop at s))) where
+    module _ (h : 0 < left) {o : Order} (q : o ≡ decodeOrder form (take 40 (drop at s))) where
       abbrev rest : List Order
-      rest = firstOrders (left - 1) (drop (at + 32) s)
+      rest = firstOrders (left - 1) (drop (at + 40) s)
 
       turn : fresh (take m keys) (o ∷ rest) ≡ settersSound (firstOrders n s)
       turn = sym (ap (fresh (take m keys)) (orders-read s at left h o q)) ∙ g .apart
 
       -- one that is not marked adds no key
-      pub gathered-same : o .setter ≡ false → Gathered s n keys m (at + 32) (left - 1)
+      pub gathered-same : o .setter ≡ false → Gathered s n keys m (at + 40) (left - 1)
       gathered-same e = record {
         few = omega arith;
         room = g .room;
@@ -58,7 +58,7 @@ module _ {s : List ℕ} {n : ℕ} {keys : List ℕ} where
         gathered-met b = sym (fresh-met (take m keys) o rest e (rw (← p) b)) ∙ turn
 
         -- its key was not met, and is added
-        pub gathered-more : any (eqb k) (take m keys) ≡ false → Gathered s n (set keys m k) (m + 1) (at + 32) (left - 1)
+        pub gathered-more : any (eqb k) (take m keys) ≡ false → Gathered s n (set keys m k) (m + 1) (at + 40) (left - 1)
         gathered-more b =
             let t : take (m + 1) (set keys m k) ≡ take m keys ++ (setterKey o ∷ []) =
             rw (add-one, p) (take-suc-set keys m (setterKey o) (omega arith)) in

@@ -92,7 +92,7 @@ pub fn locate(book: &[u8], number: u32) -> Found
     locate_checked(book, checked.orders as usize, number)
 }
 
-// The order's own 32 bytes of the lent book, not a copy; empty where it is refused.
+// The order's own 40 bytes of the lent book, not a copy; empty where it is refused.
 pub fn find<'a>(book: &'a [u8], number: u32, refusal: &mut u32) -> &'a [u8]
     ensures refused { λ r. ⌜ now (refusal .exit) ≡ findCall number (now (book .entry)) .refusal ⌝ }
     ensures part { λ r. ⌜ now r ≡ foundPart (findCall number (now (book .entry))) (now (book .entry)) ⌝ }

@@ -9,7 +9,7 @@ ghost use Rattle.book.specs.Lookup.{placeOf};
 
 // How many of the first n orders stand before the one of this number.
 pub(crate) fn place_of(book: &[u8], n: usize, number: u32) -> usize
-    requires { ⌜ 32 * n ≤ length (now book) ⌝ }
+    requires { ⌜ 40 * n ≤ length (now book) ⌝ }
     ensures { λ r. ⌜ (r ≡ placeOf number (firstOrders n (now (book .entry)))) × (r ≤ n) ⌝ }
 {
     let mut at = 0;

@@ -38,7 +38,7 @@ fn no_keys() -> [u64; 256] {
 
 // How many of the first n orders are marked.
 fn count_marked(book: &[u8], n: usize) -> usize
-    requires { ⌜ 32 * n ≤ length (now book) ⌝ }
+    requires { ⌜ 40 * n ≤ length (now book) ⌝ }
     ensures { λ r. ⌜ r ≡ markedIn (firstOrders n (now (book .entry))) ⌝ }
 {
     let mut count = 0;
@@ -56,7 +56,7 @@ fn count_marked(book: &[u8], n: usize) -> usize
 
 // Whether no two of the first n orders are marked at one side and price, by the key of each marked order and those of the ones before it.
 fn are_apart_by_key(book: &[u8], n: usize) -> bool
-    requires { ⌜ (32 * n ≤ length (now book)) × (n ≤ 256) ⌝ }
+    requires { ⌜ (40 * n ≤ length (now book)) × (n ≤ 256) ⌝ }
     ensures { λ r. ⌜ r ≡ settersSound (firstOrders n (now (book .entry))) ⌝ }
 {
     let mut keys = no_keys();
@@ -81,7 +81,7 @@ fn are_apart_by_key(book: &[u8], n: usize) -> bool
 
 // The same, without a comparison where fewer than two are marked.
 pub(crate) fn are_apart(book: &[u8], n: usize) -> bool
-    requires { ⌜ (32 * n ≤ length (now book)) × (n ≤ 256) ⌝ }
+    requires { ⌜ (40 * n ≤ length (now book)) × (n ≤ 256) ⌝ }
     ensures { λ r. ⌜ r ≡ settersSound (firstOrders n (now (book .entry))) ⌝ }
 {
     if count_marked(book, n) < 2 {

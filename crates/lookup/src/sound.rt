@@ -25,7 +25,7 @@ pub(crate) fn has_whole_records(length: usize) -> bool
 
 // How many records come before the first unused one.
 pub(crate) fn count_occupied(book: &[u8]) -> usize
-    ensures { λ r. ⌜ (r ≡ length (occupied (recordsIn form (now (book .entry))))) × (32 * r ≤ length (now (book .entry))) ⌝ }
+    ensures { λ r. ⌜ (r ≡ length (occupied (recordsIn form (now (book .entry))))) × (40 * r ≤ length (now (book .entry))) ⌝ }
 {
     let mut at = 0;
     let mut left = book.len() / RECORD_BYTES;
@@ -43,7 +43,7 @@ pub(crate) fn count_occupied(book: &[u8]) -> usize
 
 // Whether each of the first n records is sound by itself.
 fn records_sound(book: &[u8], n: usize) -> bool
-    requires { ⌜ 32 * n ≤ length (now book) ⌝ }
+    requires { ⌜ 40 * n ≤ length (now book) ⌝ }
     ensures { λ r. ⌜ r ≡ all (recordSound form) (firstRecords form n (now (book .entry))) ⌝ }
 {
     let mut sound = true;
@@ -59,7 +59,7 @@ fn records_sound(book: &[u8], n: usize) -> bool
 
 // Whether the numbers of the first n orders rise strictly.
 fn numbers_rise(book: &[u8], n: usize) -> bool
-    requires { ⌜ 32 * n ≤ length (now book) ⌝ }
+    requires { ⌜ 40 * n ≤ length (now book) ⌝ }
     ensures { λ r. ⌜ r ≡ rising 0 (firstOrders n (now (book .entry))) ⌝ }
 {
     let mut rising = true;
@@ -78,9 +78,9 @@ fn numbers_rise(book: &[u8], n: usize) -> bool
 
 // Whether the first n records are those of sound orders and every byte behind them is zero.
 pub(crate) fn is_sound(book: &[u8], n: usize) -> bool
-    requires { ⌜ (32 * n ≤ length (now book)) × (n ≤ 256) ⌝ }
+    requires { ⌜ (40 * n ≤ length (now book)) × (n ≤ 256) ⌝ }
     ensures { λ r. ⌜ r ≡ (all (recordSound form) (firstRecords form n (now (book .entry)))
-        && all isZero (drop (32 * n) (now (book .entry)))
+        && all isZero (drop (40 * n) (now (book .entry)))
         && rising 0 (firstOrders n (now (book .entry)))
         && settersSound (firstOrders n (now (book .entry)))) ⌝ }
 {

@@ -30,8 +30,8 @@ use Rattle.matching.specs.Paragraph.{Group, proRataGroup}
 use Rattle.matching.specs.Take.{outcome}
 use Rattle.matching.specs.Fairness.{gets, reaching, counted, guaranteed, LotBounds, countedSize, totalAt, dividedAt, Sharing, Setter, HeldToGuarantee}
 use Rattle.matching.proofs.Parts.{part-in, part-number, parts-rising, allotShare}
-use Rattle.matching.proofs.Groups.{stands-means, one-setter, find-setter, pro-rata-group, nothing-later}
-use Rattle.matching.proofs.Groups.{lotPart, inLots, counted-size, counted-total, counted-in, in-counted, lots-displayed, no-minimum}
+use Rattle.matching.proofs.Groups.{stands-means, one-setter, find-setter, pro-rata-group}
+use Rattle.matching.proofs.Groups.{lotPart, inLots, counted-size, counted-total, counted-in, in-counted, no-minimum}
 use Rattle.matching.proofs.Reaching.{gets-share}
 
 -- the bounds of plain lot sharing
@@ -104,8 +104,7 @@ module _ (lot : ℕ) (l : 0 < lot) (alg : Algorithm) (i : Incoming) (os : List O
       gets-first pro =
           let w = T-true (withinLimit (i .taker .side) (i .taker .limit .0) (priceOf o)) (a .shares .inLimit) in
           let t = true-and (stands-means (i .taker) price lots o in-lots .0) w in
-          let n = nothing-later lot (i .taker) price o (lots-displayed lot i price o in-lots) l alg pro in
-          gets-share lot alg i os rise o (a .shares .member) t price (a .here) n ∙ rw (pro-rata-group lot alg pro Two)
+          gets-share lot alg i os rise o (a .shares .member) t price (a .here) ∙ rw (pro-rata-group lot alg pro Two)
 
       gets-by : (x : Algorithm) → ¬ (x ≡ PriceTime) → alg ≡ x → gets es o ≡ allotShare lot x Two (reaching i es price) group (part o)
       gets-by x pro v = gets-first (λ e. pro (sym v ∙ e)) ∙ ap (λ y. allotShare lot y Two (reaching i es price) group (part o)) v

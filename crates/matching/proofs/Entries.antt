@@ -1,7 +1,7 @@
--- An order's entry in an allotment, by its number, and the executions of allocations added up by number and by price.
+-- An order's entry in an allotment, by its number, and the executions of allocations added up by number, paragraph and price.
 use Prim.Native.Nat.{ℕ, _+_, _<_}
-use mathlib.Core.Path.{_≡_, refl, ap, _∙_, subst⁻¹}
-use mathlib.Core.Bool.{Bool, true, false}
+use mathlib.Core.Path.{_≡_, refl, sym, ap, _∙_, subst⁻¹}
+use mathlib.Core.Bool.{Bool, true, false, _&&_}
 use mathlib.Core.List.{List, [], _∷_, map, List·Memᴰ, List·Memᴰ·head, List·Memᴰ·tail}
 use native.Mathlib.Omega.{arith}
 use native.Mathlib.Nat.{zero-add, add-zero}
@@ -18,7 +18,7 @@ use Rattle.orders.specs.declared.order.Order.{Order}
 use Rattle.book.specs.Sound.{rising}
 use Rattle.matching.specs.Paragraph.{paragraphNumber}
 use Rattle.matching.specs.Take.{Allocation, used, executionsBy, executionsOf}
-use Rattle.matching.specs.Fairness.{executedShares, gets}
+use Rattle.matching.specs.Fairness.{executedShares}
 
 -- the entry of an order's number in an allotment
 unfoldable pub shareIn : ℕ → List Order → List ℕ → ℕ
@@ -58,20 +58,22 @@ pub lookup : (f : Part → ℕ) (part : Order → Part) (m : ℕ) (os : List Ord
     → shareIn (o .number) os (map f (map part os)) ≡ f (part o)
 lookup f part m os r o i = pick (λ p n. n ≡ f p) part m os r (map f (map part os)) (each-map f (map part os) (λ p k. refl)) o i
 
--- a test of the number and the price of an execution picks the entries of the orders that pass it
-executions-picked : (w : ℕ → ℕ → Bool) (g price : ℕ) (os : List Order) (ns : List ℕ)
-    → total (λ e. orZero (w (e .number) (e .price .0)) (executedShares e)) (executionsBy g price os ns) ≡ sum (zipWith (λ o n. orZero (w (o .number) price) n) os ns)
+-- a test of the number, the price and the paragraph of an execution picks the entries of the orders that pass it
+executions-picked : (w : ℕ → ℕ → ℕ → Bool) (g price : ℕ) (os : List Order) (ns : List ℕ)
+    → total (λ e. orZero (w (e .number) (e .price .0) (e .paragraph)) (executedShares e)) (executionsBy g price os ns)
+    ≡ sum (zipWith (λ o n. orZero (w (o .number) price g) n) os ns)
 executions-picked w g price [] ns = refl
 executions-picked w g price (o ∷ os) [] = refl
 executions-picked w g price (o ∷ os) (k ∷ ks) = go (ltb 0 k) refl (executions-picked w g price os ks)
   where
     go : (b : Bool) → ltb 0 k ≡ b
-        → total (λ e. orZero (w (e .number) (e .price .0)) (executedShares e)) (executionsBy g price os ks) ≡ sum (zipWith (λ o n. orZero (w (o .number) price) n) os ks)
-        → total (λ e. orZero (w (e .number) (e .price .0)) (executedShares e))
+        → total (λ e. orZero (w (e .number) (e .price .0) (e .paragraph)) (executedShares e)) (executionsBy g price os ks)
+        ≡ sum (zipWith (λ o n. orZero (w (o .number) price g) n) os ks)
+        → total (λ e. orZero (w (e .number) (e .price .0) (e .paragraph)) (executedShares e))
         (consIf b (record { number = o .number; price = record { 0 = price }; shares = record { 0 = k }; paragraph = g }) (executionsBy g price os ks))
-        ≡ orZero (w (o .number) price) k + sum (zipWith (λ o n. orZero (w (o .number) price) n) os ks)
-    go true e i = ap (λ n. orZero (w (o .number) price) k + n) i
-    go false e i = rw (pick-zero (w (o .number) price) {n = k} (omega (arith, ltb-false 0 k e)), zero-add) i
+        ≡ orZero (w (o .number) price g) k + sum (zipWith (λ o n. orZero (w (o .number) price g) n) os ks)
+    go true e i = ap (λ n. orZero (w (o .number) price g) k + n) i
+    go false e i = rw (pick-zero (w (o .number) price g) {n = k} (omega (arith, ltb-false 0 k e)), zero-add) i
 
 entries-all : (b : Bool) (os : List Order) (ns : List ℕ) → length ns ≡ length os → sum (zipWith (λ o n. orZero b n) os ns) ≡ orZero b (sum ns)
 entries-all true [] [] h = refl
@@ -80,12 +82,30 @@ entries-all b [] (k ∷ ks) h = absurd (omega arith)
 entries-all b (o ∷ os) [] h = absurd (omega arith)
 entries-all b (o ∷ os) (k ∷ ks) h = ap (λ n. orZero b k + n) (entries-all b os ks (omega arith)) ∙ pick-add b k (sum ks)
 
--- what an order gets is its entries in all allocations
-pub gets-entries : (os : List Order) (rows : List Allocation) (o : Order) → gets (executionsOf os rows) o ≡ total (λ a. shareIn (o .number) os (a .allotment)) rows
-unfolding gets executionsOf shareIn
-gets-entries os rows o =
-    total-flat (λ e. orZero (eqb (e .number) (o .number)) (executedShares e)) (λ a. executionsBy (paragraphNumber (a .paragraph)) (a .price) os (a .allotment)) rows
-    ∙ total-same rows (λ a i. executions-picked (λ n p. eqb n (o .number)) (paragraphNumber (a .paragraph)) (a .price) os (a .allotment))
+-- an entry that two tests pick is the entry by the one, where the other passes
+entry-picked : (b : Bool) (n : ℕ) (os : List Order) (ns : List ℕ)
+    → sum (zipWith (λ o k. orZero (eqb (o .number) n && b) k) os ns) ≡ orZero b (shareIn n os ns)
+unfolding shareIn
+entry-picked b n [] ns = sym (pick-zero b refl)
+entry-picked b n (o ∷ os) [] = sym (pick-zero b refl)
+entry-picked b n (o ∷ os) (k ∷ ks) = rw (entry-picked b n os ks) (go (eqb (o .number) n) b)
+  where
+    go : (a b : Bool) → orZero (a && b) k + orZero b (shareIn n os ks) ≡ orZero b (orZero a k + shareIn n os ks)
+    go true true = refl
+    go true false = refl
+    go false true = refl
+    go false false = refl
+
+-- the shares of an order in paragraphs that pass a test are its entries in the allocations of such paragraphs
+pub picked-entries : (w : ℕ → Bool) (os : List Order) (rows : List Allocation) (n : ℕ)
+    → total (λ e. orZero (eqb (e .number) n && w (e .paragraph)) (executedShares e)) (executionsOf os rows)
+    ≡ total (λ a. orZero (w (paragraphNumber (a .paragraph))) (shareIn n os (a .allotment))) rows
+unfolding executionsOf
+picked-entries w os rows n =
+    total-flat (λ e. orZero (eqb (e .number) n && w (e .paragraph)) (executedShares e))
+    (λ a. executionsBy (paragraphNumber (a .paragraph)) (a .price) os (a .allotment)) rows
+    ∙ total-same rows (λ a i. executions-picked (λ m p g. eqb m n && w g) (paragraphNumber (a .paragraph)) (a .price) os (a .allotment)
+    ∙ entry-picked (w (paragraphNumber (a .paragraph))) n os (a .allotment))
 
 -- every allotment has one number for each order
 abbrev pub Aligned : List Order → List Allocation → Type 0
@@ -97,7 +117,7 @@ pub executed-at : (w : ℕ → Bool) (os : List Order) (rows : List Allocation) 
 unfolding executionsOf
 executed-at w os rows h =
     total-flat (λ e. orZero (w (e .price .0)) (executedShares e)) (λ a. executionsBy (paragraphNumber (a .paragraph)) (a .price) os (a .allotment)) rows
-    ∙ total-same rows (λ a i. executions-picked (λ n p. w p) (paragraphNumber (a .paragraph)) (a .price) os (a .allotment)
+    ∙ total-same rows (λ a i. executions-picked (λ n p g. w p) (paragraphNumber (a .paragraph)) (a .price) os (a .allotment)
     ∙ entries-all (w (a .price)) os (a .allotment) (every-member (λ a. length (a .allotment) ≡ length os) rows h a i))
 
 -- the shares of all executions are all that the allocations use

@@ -1,15 +1,14 @@
--- Who stands in a group: at most one setter in any, and in the group of displayed round lots what counts at the price, which stands in
--- no other group.
+-- Who stands in a group: at most one setter in any, and in the group of displayed round lots what counts at the price.
 use Prim.Native.Nat.{ℕ, _≤_, _<_}
 use mathlib.Core.Path.{_≡_, refl, sym, ap, _∙_}
 use mathlib.Core.Bool.{Bool, true, false, not, _&&_, true≢false, false≢true}
 use mathlib.Core.List.{List, [], _∷_, map, List·Memᴰ, List·Memᴰ·head, List·Memᴰ·tail, Memᴰ·of-map}
 use native.Mathlib.Omega.{arith}
 use lib.Dec.{leb, ltb, eqb}
-use borrow.Author.Tests.{leb-true, ltb-true, ltb-false, le-ltb, eqb-true, eq-eqb, not-true}
+use borrow.Author.Tests.{leb-true, ltb-true, ltb-false, eqb-true, eq-eqb, not-true}
 use Rattle.units.specs.Lists.{any, orZero, total}
-use Rattle.units.proofs.Tests.{and-true, and-false, pick-zero}
-use Rattle.units.proofs.Members.{Every, every-weaken, none-member, member-any}
+use Rattle.units.proofs.Tests.{and-true, pick-zero}
+use Rattle.units.proofs.Members.{Every, none-member, member-any}
 use Rattle.units.proofs.Totals.{total-map, total-same}
 use Rattle.sharing.specs.declared.Method.{Method}
 use Rattle.sharing.specs.Rank.{Part, partSize}
@@ -18,10 +17,10 @@ use Rattle.sharing.specs.Method.{isByLots}
 use Rattle.orders.specs.declared.order.Side.{Side}
 use Rattle.orders.specs.declared.order.Side.the-variants.{Buy, Sell}
 use Rattle.orders.specs.declared.order.Kind.{Kind}
-use Rattle.orders.specs.declared.order.Kind.the-variants.{Displayed, NonDisplayed, MinimumQuantity}
+use Rattle.orders.specs.declared.order.Kind.the-variants.{Displayed, NonDisplayed, MinimumQuantity, Reserve}
 use Rattle.orders.specs.declared.order.Order.{Order}
 use Rattle.orders.specs.declared.order.Taker.{Taker}
-use Rattle.orders.specs.Order.{Visibility, shown, hidden, interestBy, interestOf, sideNumber, sharesOf, isMinimumQuantity, minimumOf, priceOf, sizeOf}
+use Rattle.orders.specs.Order.{shown, hidden, interestBy, interestOf, sideNumber, sharesOf, isMinimumQuantity, minimumOf, priceOf, sizeOf}
 use Rattle.orders.specs.Trading.{isOpposite, isOppositeOf}
 use Rattle.book.specs.Sound.{sameSetter, settersSound}
 use Rattle.matching.specs.declared.Algorithm.{Algorithm}
@@ -131,12 +130,14 @@ shown-free : (test : Bool → ℕ → Bool) → Free (record { visibility = show
 shown-free test Displayed n h e = refl
 shown-free test NonDisplayed n h e = refl
 shown-free test (MinimumQuantity m) n h e = absurd (omega arith)
+shown-free test (Reserve b r) n h e = refl
 
 -- nor do orders that are no minimum quantity orders
 hidden-free : (test : Bool → ℕ → Bool) → Free (record { visibility = hidden; holds = withoutMinimum test })
 hidden-free test Displayed n h e = refl
 hidden-free test NonDisplayed n h e = refl
 hidden-free test (MinimumQuantity m) n h e = absurd (false≢true e)
+hidden-free test (Reserve b r) n h e = refl
 
 -- the paragraphs whose orders carry no minimum: the displayed ones of price/time, and all but the fifth of pro rata
 abbrev pub hasNoMinimum : Algorithm → Paragraph → Bool
@@ -181,15 +182,6 @@ lots-no-minimum PriceSetter g e = but-five (methodOf PriceSetter) refl g e
 pub no-minimum : (lot : ℕ) (alg : Algorithm) (g : Paragraph) → hasNoMinimum alg g ≡ true → (t : Taker) (price : ℕ) (os : List Order)
     → Every (λ p. p .minimum ≡ 0) (map (partOf t price (groupOf lot alg g)) os)
 no-minimum lot alg g e t price os = free-parts t price (groupOf lot alg g) (group-free lot alg g e) os
-
--- an order that displays shares has no others
-displays : (o : Order) → 0 < interestOf o .displayed → interestOf o .nonDisplayed ≡ 0
-displays o h = go (o .kind) h
-  where
-    go : (k : Kind) → 0 < interestBy k (sizeOf o) .displayed → interestBy k (sizeOf o) .nonDisplayed ≡ 0
-    go Displayed l = refl
-    go NonDisplayed l = absurd (omega arith)
-    go (MinimumQuantity m) l = absurd (omega arith)
 
 -- a number that is picked where it is above 0 and a test holds
 pick-positive : (a b : Bool) (n : ℕ) → orZero (a && (ltb 0 n && b)) n ≡ orZero (a && b) n
@@ -244,38 +236,3 @@ pub pro-rata-group : (lot : ℕ) (alg : Algorithm) → ¬ (alg ≡ PriceTime) �
 pro-rata-group lot PriceTime pro g = absurd (pro refl)
 pro-rata-group lot ProRata pro g = refl
 pro-rata-group lot PriceSetter pro g = refl
-
--- the order has no part of any size in these paragraphs at a price
-abbrev pub NothingIn : ℕ → Algorithm → Taker → ℕ → Order → List Paragraph → Type 0
-NothingIn lot alg t price o gs = Every (λ g. partOf t price (groupOf lot alg g) o .size ≡ 0) gs
-
--- the paragraphs behind the first
-abbrev pub laterParagraphs : List Paragraph
-laterParagraphs = Three ∷ Four ∷ Five ∷ Six ∷ []
-
-module _ (lot : ℕ) (t : Taker) (price : ℕ) (o : Order) (h : lot ≤ interestOf o .displayed) where
-  -- the order stands in no group of displayed interest that a paragraph may have
-  abbrev NotShown : Paragraph → Type 0
-  NotShown g = proRataGroup lot g .visibility ≡ shown → stands t price (proRataGroup lot g) o ≡ false
-
-  -- displayed shares of a lot or more stand in no later group
-  shown-once : Every NotShown laterParagraphs
-  shown-once = (λ e. below, (λ e. absurd (apart e), (λ e. absurd (apart e), (λ e. absurd (apart e), tt))))
-    where
-      below : stands t price (proRataGroup lot Three) o ≡ false
-      below = and-false (isOppositeOf t o && eqb (priceOf o) price) (and-false (ltb 0 (interestOf o .displayed)) (le-ltb (interestOf o .displayed) lot h))
-
-      apart : hidden ≡ shown → ⊥
-      apart e = let z : _≡_ {A = ℕ} 0 1 = cc in omega arith
-
-  -- so an order that displays them, and has no others, has nothing in a later paragraph
-  pub nothing-later : 0 < lot → (alg : Algorithm) → ¬ (alg ≡ PriceTime) → NothingIn lot alg t price o laterParagraphs
-  nothing-later l alg pro = every-weaken one laterParagraphs shown-once
-    where
-      one : (g : Paragraph) → NotShown g → partOf t price (groupOf lot alg g) o .size ≡ 0
-      one g f = rw (pro-rata-group lot alg pro g) (part-size t price (proRataGroup lot g) o ∙ go (proRataGroup lot g .visibility) f)
-        where
-          go : (v : Visibility) → (v ≡ shown → stands t price (proRataGroup lot g) o ≡ false)
-              → orZero (stands t price (proRataGroup lot g) o) (sharesOf v (interestOf o)) ≡ 0
-          go shown k = rw (k refl)
-          go hidden k = pick-zero (stands t price (proRataGroup lot g) o) (displays o (omega arith))

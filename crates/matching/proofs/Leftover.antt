@@ -24,10 +24,11 @@ use Rattle.matching.specs.declared.Algorithm.{Algorithm}
 use Rattle.matching.specs.declared.Paragraph.{Paragraph}
 use Rattle.matching.specs.Paragraph.{paragraphs, groupOf, partOf}
 use Rattle.matching.specs.Take.{Allocation, used, allocationAt, allocationsAt, allocationsOver}
+use Rattle.matching.specs.Reserve.{sameVisibility}
 use Rattle.matching.proofs.Levels.{Sorted, better-apart}
 use Rattle.matching.proofs.Entries.{shareIn, pick}
 use Rattle.matching.proofs.Parts.{wholePart, part-in, part-out, partsAt}
-use Rattle.matching.proofs.Places.{sameVisibility, same-visibility, own-shares, other-shares, standsIn, standing-one, other, Once, paragraphs-once}
+use Rattle.matching.proofs.Places.{same-visibility, own-shares, other-shares, standing-one, partIn, other, Once, paragraphs-once}
 
 -- what orders lose in allocations
 module _ (os : List Order) (v : Visibility) (o : Order) where
@@ -76,7 +77,7 @@ module _ (lot : ℕ) (alg : Algorithm) (t : Taker) (os : List Order) (rise : ris
       -- the order's shares of this visibility stand in a paragraph at a price
       abbrev standsAt : ℕ → Paragraph → Bool
       standsAt price g =
-          isOppositeOf t o && eqb (priceOf o) price && standsIn v (isMinimumQuantity (o .kind)) (sharesOf v (interestOf o)) (groupOf lot alg g)
+          isOppositeOf t o && eqb (priceOf o) price && partIn lot alg o v g
 
       -- with the group's visibility, that is the group's own test
       same-test : (w : Visibility) (holds : ℕ → Bool) (b : Bool) → sameVisibility v w ≡ true
@@ -113,7 +114,7 @@ module _ (lot : ℕ) (alg : Algorithm) (t : Taker) (os : List Order) (rise : ris
       row-met price g l e h =
           let w = groupOf lot alg g .visibility in
           let n = sharesOf v (interestOf o) in
-          let a = and-true (isOppositeOf t o && eqb (priceOf o) price) (standsIn v (isMinimumQuantity (o .kind)) n (groupOf lot alg g)) e in
+          let a = and-true (isOppositeOf t o && eqb (priceOf o) price) (partIn lot alg o v g) e in
           let s = and-true (sameVisibility v w) (ltb 0 n && groupOf lot alg g .holds (isMinimumQuantity (o .kind)) n) (a .1) .0 in
           let b = sym (same-test w (λ n. ltb 0 n && groupOf lot alg g .holds (isMinimumQuantity (o .kind)) n) (isOppositeOf t o && eqb (priceOf o) price) s) ∙ e in
           let k = pick (λ p n. Met (l - used (row price g l)) p n) (partOf t price (groupOf lot alg g)) 0 os rise (row price g l .allotment) (filled price g l .met h) o i in
@@ -146,7 +147,7 @@ module _ (lot : ℕ) (alg : Algorithm) (t : Taker) (os : List Order) (rise : ris
       far price n [] = tt
       far price n (g ∷ gs) =
           let a : isOppositeOf t o && eqb (priceOf o) price ≡ false = and-false (isOppositeOf t o) (ne-eqb (priceOf o) price n) in
-          (false-and (standsIn v (isMinimumQuantity (o .kind)) (sharesOf v (interestOf o)) (groupOf lot alg g)) a, far price n gs)
+          (false-and (partIn lot alg o v g) a, far price n gs)
 
       levels-out : (prices : List ℕ) → Every (λ p. ¬ (priceOf o ≡ p)) prices → (l : ℕ) → total (lost os v o) (allocationsOver lot alg t os prices l) ≡ 0
       unfolding allocationsOver
@@ -165,7 +166,7 @@ module _ (lot : ℕ) (alg : Algorithm) (t : Taker) (os : List Order) (rise : ris
           let one = standing-one lot alg v (isMinimumQuantity (o .kind)) (sharesOf v (interestOf o)) p in
           rows-met (priceOf o) (one .place) (own (one .place) ∙ one .inside) (λ g n. own g ∙ one .outside g n) paragraphs (paragraphs-once (one .place)) l h
         where
-          own : (g : Paragraph) → standsAt (priceOf o) g ≡ standsIn v (isMinimumQuantity (o .kind)) (sharesOf v (interestOf o)) (groupOf lot alg g)
+          own : (g : Paragraph) → standsAt (priceOf o) g ≡ partIn lot alg o v g
           own g = rw (e, eq-eqb (priceOf o) (priceOf o) refl)
 
       -- where shares are left over, the order's shares of this visibility are all lost, or none and its minimum is above what is left

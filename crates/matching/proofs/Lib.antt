@@ -15,3 +15,6 @@ pub mod Taking
 pub mod TakeFair
 pub mod TakeNamed
 pub mod Counting
+pub mod OnePerPart
+pub mod Reserve
+pub mod Before

@@ -1,11 +1,12 @@
 -- What an order of the book afterwards comes of: an order at entry, and what it lost in the allocations.
 use Prim.Native.Nat.{ℕ, _+_, _<_}
-use mathlib.Core.Path.{_≡_, refl, ap, _∙_}
+use mathlib.Core.Path.{_≡_, refl, sym, ap, _∙_, subst⁻¹}
 use mathlib.Core.Bool.{true}
 use mathlib.Core.List.{List, [], _∷_, map, List·Memᴰ, List·Memᴰ·head, List·Memᴰ·tail, List·Memᴰ·not-nil}
 use native.Mathlib.Omega.{arith}
 use native.Mathlib.Nat.{zero-add, add-zero}
 use lib.Dec.{ltb}
+use lib.ListN.{length, length-map}
 use borrow.Author.Tests.{eq-eqb, ne-eqb}
 use Rattle.units.specs.Lists.{total, zipWith}
 use Rattle.units.proofs.Tests.{and-true}
@@ -14,7 +15,7 @@ use Rattle.orders.specs.declared.order.Order.{Order}
 use Rattle.orders.specs.Order.{Visibility, shown, hidden, Interest, noInterest, sharesOf, onlyOf, together}
 use Rattle.book.specs.Sound.{rising}
 use Rattle.matching.specs.Take.{Allocation, lossesOf}
-use Rattle.matching.proofs.Entries.{shareIn, orders-above, absent}
+use Rattle.matching.proofs.Entries.{shareIn, orders-above, absent, Aligned}
 use Rattle.matching.proofs.Leftover.{lost}
 
 -- an order and an entry stand at one place of two lists
@@ -26,6 +27,18 @@ module _ {A : Type 0} where
   pub beside-member : {os : List Order} {xs : List A} {o : Order} {x : A} → Beside os xs o x → List·Memᴰ o os
   beside-member first = List·Memᴰ·head refl
   beside-member (next b) = List·Memᴰ·tail (beside-member b)
+
+  -- where both are as long, an order has an entry beside it
+  pub member-beside : (os : List Order) (xs : List A) → length xs ≡ length os → (o : Order) → List·Memᴰ o os → (x : A) × Beside os xs o x
+  member-beside [] xs h o m = absurd (List·Memᴰ·not-nil m)
+  member-beside (p ∷ os) [] h o m = absurd (omega arith)
+  member-beside (p ∷ os) (x ∷ xs) h o (List·Memᴰ·head e) = (x, subst⁻¹ (λ (y : Order). Beside (p ∷ os) (x ∷ xs) y x) e first)
+  member-beside (p ∷ os) (x ∷ xs) h o (List·Memᴰ·tail m) = let r = member-beside os xs (omega arith) o m in (r .0, next (r .1))
+
+  -- an order and its entry make an element of two lists put together
+  pub beside-zip-member : {B : Type 0} (f : A → Order → B) {os : List Order} {xs : List A} {o : Order} {x : A} → Beside os xs o x → List·Memᴰ (f x o) (zipWith f xs os)
+  beside-zip-member f first = List·Memᴰ·head refl
+  beside-zip-member f (next b) = List·Memᴰ·tail (beside-zip-member f b)
 
   -- an element of two lists put together comes of an order and its entry
   pub zip-beside : {B : Type 0} (f : A → Order → B) (xs : List A) (os : List Order) (y : B) → List·Memᴰ y (zipWith f xs os)
@@ -80,3 +93,17 @@ loss-shares os r (a ∷ rows) b v =
     let n = beside-share 0 r (x .1) in
     let i = loss-shares os r rows (z .3) v in
     rw (z .4, shares-together v (z .0) (z .1), x .2, ← n, i)
+
+length-zip : {A B C : Type 0} (f : A → B → C) (xs : List A) (ys : List B) → length xs ≡ length ys → length (zipWith f xs ys) ≡ length ys
+length-zip f [] [] h = refl
+length-zip f [] (y ∷ ys) h = absurd (omega arith)
+length-zip f (x ∷ xs) [] h = absurd (omega arith)
+length-zip f (x ∷ xs) (y ∷ ys) h = omega (arith, length-zip f xs ys (omega arith))
+
+-- there is one loss for each order
+pub losses-aligned : (os : List Order) (rows : List Allocation) → Aligned os rows → length (lossesOf os rows) ≡ length os
+unfolding lossesOf
+losses-aligned os [] h = rw length-map
+losses-aligned os (a ∷ rows) h =
+    let i = losses-aligned os rows (h .1) in
+    length-zip together (map (onlyOf (a .visibility)) (a .allotment)) (lossesOf os rows) (rw length-map (h .0 ∙ sym i)) ∙ i

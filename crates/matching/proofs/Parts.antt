@@ -1,14 +1,16 @@
 -- The parts of a book's orders in a group, and what each gets of an allotment, for every algorithm and paragraph.
-use Prim.Native.Nat.{ℕ, _-_}
+use Prim.Native.Nat.{ℕ, _-_, _≤_}
 use mathlib.Core.Path.{_≡_, refl, ap, _∙_}
 use mathlib.Core.Bool.{Bool, true, false, _&&_}
 use mathlib.Core.List.{List, [], _∷_, map, List·Memᴰ, Memᴰ·map}
+use native.Mathlib.Omega.{arith}
 use lib.Dec.{ltb, eqb}
 use lib.ListN.{length, length-map}
 use borrow.Author.Tests.{ltb-true}
 use Rattle.units.specs.Lists.{orZero, total}
 use Rattle.units.proofs.Tests.{and-true}
 use Rattle.units.proofs.Members.{Every, every-append}
+use Rattle.units.proofs.Totals.{total-append}
 use Rattle.sharing.specs.Rank.{Part, noPart, partSize, Rising}
 use Rattle.sharing.proofs.Methods.{shareBy, by-map, by-none}
 use Rattle.orders.specs.declared.order.Order.{Order}
@@ -93,6 +95,25 @@ module _ (lot : ℕ) (alg : Algorithm) (t : Taker) (os : List Order) where
         let level = allocationsAt lot alg t os price paragraphs left in
         every-append P level (allocationsOver lot alg t os prices (left - total used level)) (every-at price paragraphs left)
         (every-over prices (left - total used level))
+
+  -- a number of an allocation that is bounded at each price and paragraph is bounded over any price levels
+  module _ (f : Allocation → ℕ) (most : ℕ → Paragraph → ℕ)
+      (h : (price : ℕ) (g : Paragraph) (left : ℕ) → f (allocationAt lot alg t os price g left) ≤ most price g)
+    where
+      most-at : (price : ℕ) (gs : List Paragraph) (left : ℕ) → total f (allocationsAt lot alg t os price gs left) ≤ total (most price) gs
+      unfolding allocationsAt
+      most-at price [] left = omega arith
+      most-at price (g ∷ gs) left =
+          omega (arith, h price g left, most-at price gs (left - used (allocationAt lot alg t os price g left)))
+
+      pub most-over : (prices : List ℕ) (left : ℕ)
+          → total f (allocationsOver lot alg t os prices left) ≤ total (λ price. total (most price) paragraphs) prices
+      unfolding allocationsOver
+      most-over [] left = omega arith
+      most-over (price ∷ prices) left =
+          let level = allocationsAt lot alg t os price paragraphs left in
+          let rest = allocationsOver lot alg t os prices (left - total used level) in
+          omega (arith, total-append f level rest, most-at price paragraphs left, most-over prices (left - total used level))
 
   -- they have one number for each order
   pub aligned-over : (prices : List ℕ) (left : ℕ) → Aligned os (allocationsOver lot alg t os prices left)

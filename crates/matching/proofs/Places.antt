@@ -1,37 +1,34 @@
 -- Where an order's shares stand: under each algorithm those of one visibility stand in the group of exactly one paragraph.
 use Prim.Native.Nat.{ℕ, zero, suc, _≤_, _<_}
-use mathlib.Core.Path.{_≡_, refl, sym, ap, _∙_}
+use mathlib.Core.Path.{_≡_, refl, sym, ap, subst, _∙_}
 use mathlib.Core.Logic.{_⊎_, inl, inr}
 use mathlib.Core.Bool.{Bool, true, false, not, _&&_, _||_, false≢true, true≢false}
 use mathlib.Core.List.{List, [], _∷_, List·Memᴰ, List·Memᴰ·head, List·Memᴰ·tail}
 use native.Mathlib.Omega.{arith}
 use lib.Dec.{leb, ltb, eqb}
-use borrow.Author.Tests.{leb-true, leb-false, le-ltb, lt-ltb, eqb-true, not-true, not-false}
+use borrow.Author.Tests.{leb-true, leb-false, ltb-true, le-ltb, lt-ltb, eqb-true, not-true, not-false}
 use Rattle.units.specs.Lists.{all}
 use Rattle.units.proofs.Members.{Every, all-member}
-use Rattle.units.proofs.Tests.{and-false}
-use Rattle.orders.specs.declared.order.Kind.{Kind}
-use Rattle.orders.specs.declared.order.Kind.the-variants.{Displayed, NonDisplayed, MinimumQuantity}
+use Rattle.units.proofs.Tests.{and-true}
 use Rattle.orders.specs.declared.order.Order.{Order}
-use Rattle.orders.specs.Order.{Visibility, shown, hidden, sharesOf, onlyOf, interestBy, interestOf, isMinimumQuantity, sizeOf}
+use Rattle.orders.specs.Order.{Visibility, shown, hidden, sharesOf, onlyOf, interestOf, isMinimumQuantity}
 use Rattle.matching.specs.declared.Algorithm.{Algorithm}
 use Rattle.matching.specs.declared.Algorithm.the-variants.{PriceTime, ProRata, PriceSetter}
 use Rattle.matching.specs.declared.Paragraph.{Paragraph}
 use Rattle.matching.specs.declared.Paragraph.the-variants.{Two, Three, Four, Five, Six}
 use Rattle.matching.specs.Paragraph.{paragraphs, paragraphNumber, Group, groupOf, proRataGroup, inGroup}
 use Rattle.matching.specs.Numbered.{paragraphNumbered}
-
-abbrev pub sameVisibility : Visibility → Visibility → Bool
-sameVisibility shown shown = true
-sameVisibility shown hidden = false
-sameVisibility hidden shown = false
-sameVisibility hidden hidden = true
+use Rattle.matching.specs.Reserve.{sameVisibility}
 
 pub same-visibility : (v w : Visibility) → sameVisibility v w ≡ true → v ≡ w
 same-visibility shown shown e = refl
 same-visibility shown hidden e = absurd (false≢true e)
 same-visibility hidden shown e = absurd (false≢true e)
 same-visibility hidden hidden e = refl
+
+same-self : (v : Visibility) → sameVisibility v v ≡ true
+same-self shown = refl
+same-self hidden = refl
 
 -- shares of one visibility are none of the other
 pub own-shares : (v : Visibility) (n : ℕ) → sharesOf v (onlyOf v n) ≡ n
@@ -98,6 +95,14 @@ pub record One (t : Paragraph → Bool) : Type 0 where
   pub inside : t place ≡ true
   pub outside : (g : Paragraph) → other g place ≡ true → t g ≡ false
 
+-- a paragraph that passes it is that one
+one-only : {t : Paragraph → Bool} (o : One t) (g : Paragraph) → t g ≡ true → g ≡ o .place
+one-only o g a = go (other g (o .place)) refl
+  where
+    go : (b : Bool) → other g (o .place) ≡ b → g ≡ o .place
+    go true e = absurd (true≢false (sym a ∙ o .outside g e))
+    go false e = same-paragraph g (o .place) (eqb-true (paragraphNumber g) (paragraphNumber (o .place)) (not-false _ e))
+
 one-of : {s t : Paragraph → Bool} → ((g : Paragraph) → s g ≡ t g) → One s → One t
 one-of h o = record { place = o .place; inside = sym (h (o .place)) ∙ o .inside; outside = λ g n. sym (h g) ∙ o .outside g n }
 
@@ -152,7 +157,7 @@ lot-tests v m n lot Five = refl
 lot-tests v m n lot Six = ap (λ b. sameVisibility v hidden && (not m && b)) (below lot n)
 
 -- a paragraph has the test that they pass, and no other has
-pub passing-one : (lot : ℕ) (alg : Algorithm) (v : Visibility) (m : Bool) (n : ℕ) → One (λ g. passes v m n (groupOf lot alg g))
+passing-one : (lot : ℕ) (alg : Algorithm) (v : Visibility) (m : Bool) (n : ℕ) → One (λ g. passes v m n (groupOf lot alg g))
 passing-one lot PriceTime v m n = time-one v m n lot
 passing-one lot ProRata v m n = one-of (lot-tests v m n lot) (lot-one v m (leb lot n))
 passing-one lot PriceSetter v m n = one-of (lot-tests v m n lot) (lot-one v m (leb lot n))
@@ -161,49 +166,25 @@ passing-one lot PriceSetter v m n = one-of (lot-tests v m n lot) (lot-one v m (l
 pub standing-one : (lot : ℕ) (alg : Algorithm) (v : Visibility) (m : Bool) (n : ℕ) → 0 < n → One (λ g. standsIn v m n (groupOf lot alg g))
 standing-one lot alg v m n h = one-of (λ g. rw (lt-ltb 0 n h)) (passing-one lot alg v m n)
 
--- an order's shares are of one visibility
-one-visibility : (o : Order) → (v : Visibility) × (interestOf o ≡ onlyOf v (sizeOf o))
-one-visibility o = go (o .kind)
-  where
-    go : (k : Kind) → (v : Visibility) × (interestBy k (sizeOf o) ≡ onlyOf v (sizeOf o))
-    go Displayed = (shown, refl)
-    go NonDisplayed = (hidden, refl)
-    go (MinimumQuantity m) = (hidden, refl)
-
--- shares of one visibility fail a group's test where they fail it or the group is of the other
-visible-test : (v w : Visibility) (n : ℕ) (p : ℕ → Bool) → (sameVisibility v w && p n) ≡ false
-    → (ltb 0 (sharesOf w (onlyOf v n)) && p (sharesOf w (onlyOf v n))) ≡ false
-visible-test shown shown n p e = and-false (ltb 0 n) e
-visible-test shown hidden n p e = refl
-visible-test hidden shown n p e = refl
-visible-test hidden hidden n p e = and-false (ltb 0 n) e
-
--- The paragraph in whose group an order is, if it is in any.
+-- Where an order's shares of each visibility stand.
 module _ (lot : ℕ) (alg : Algorithm) (o : Order) where
-  home : One (λ g. passes (one-visibility o .0) (isMinimumQuantity (o .kind)) (sizeOf o) (groupOf lot alg g))
-  home = passing-one lot alg (one-visibility o .0) (isMinimumQuantity (o .kind)) (sizeOf o)
+  -- those of a visibility stand in a paragraph's group
+  abbrev pub partIn : Visibility → Paragraph → Bool
+  partIn v g = standsIn v (isMinimumQuantity (o .kind)) (sharesOf v (interestOf o)) (groupOf lot alg g)
 
-  pub groupHome : Paragraph
-  groupHome = home .place
+  -- those of the group's visibility do where the order is in the group
+  pub in-part : (g : Paragraph) → partIn (groupOf lot alg g .visibility) g ≡ inGroup (groupOf lot alg g) o
+  in-part g = rw (same-self (groupOf lot alg g .visibility))
 
-  -- it is in no other's
-  pub elsewhere : (g : Paragraph) → other g groupHome ≡ true → inGroup (groupOf lot alg g) o ≡ false
-  unfolding groupHome
-  elsewhere g e =
-      let v = one-visibility o in
-      let group = groupOf lot alg g in
-      rw (v .1) (visible-test (v .0) (group .visibility) (sizeOf o) (group .holds (isMinimumQuantity (o .kind))) (home .outside g e))
-
-  at-home : (g : Paragraph) → inGroup (groupOf lot alg g) o ≡ true → g ≡ groupHome
-  at-home g a = go (other g groupHome) refl
-    where
-      go : (b : Bool) → other g groupHome ≡ b → g ≡ groupHome
-      go true e = absurd (true≢false (sym a ∙ elsewhere g e))
-      go false e = same-paragraph g groupHome (eqb-true (paragraphNumber g) (paragraphNumber groupHome) (not-false _ e))
-
-  -- so it is in the group of one paragraph at most
-  pub group-alone : (g h : Paragraph) → inGroup (groupOf lot alg g) o ≡ true → inGroup (groupOf lot alg h) o ≡ true → h ≡ g
-  group-alone g h a b = at-home h b ∙ sym (at-home g a)
+  -- so with shares of one visibility it is in the group of one paragraph at most
+  pub group-alone : (g h : Paragraph) → groupOf lot alg h .visibility ≡ groupOf lot alg g .visibility → inGroup (groupOf lot alg g) o ≡ true
+      → inGroup (groupOf lot alg h) o ≡ true → h ≡ g
+  group-alone g h e a b =
+      let v = groupOf lot alg g .visibility in
+      let m = isMinimumQuantity (o .kind) in
+      let n = sharesOf v (interestOf o) in
+      let one = standing-one lot alg v m n (ltb-true 0 n (and-true (ltb 0 n) (groupOf lot alg g .holds m n) a .0)) in
+      one-only one h (subst (λ (w : Visibility). partIn w h ≡ true) e (in-part h ∙ b)) ∙ sym (one-only one g (in-part g ∙ a))
 
 -- a paragraph stands in a list once
 abbrev pub Once : Paragraph → List Paragraph → Type 0

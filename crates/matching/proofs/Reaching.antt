@@ -1,12 +1,13 @@
--- What an order that stands in the first paragraph alone gets over the price levels: its share there of what reaches its price.
+-- What the part of an order in the first paragraph gets over the price levels: its share there of what reaches its price.
 use Prim.Native.Nat.{ℕ, _+_, _-_}
 use mathlib.Core.Path.{_≡_, refl, sym, ap, _∙_, subst}
 use mathlib.Core.Bool.{true}
 use mathlib.Core.List.{List, [], _∷_, _++_, List·Memᴰ, List·Memᴰ·head, List·Memᴰ·tail}
 use native.Mathlib.Omega.{arith}
+use lib.Dec.{eqb}
 use Rattle.units.specs.Lists.{orZero, total}
 use Rattle.units.proofs.Tests.{pick-zero, pick-add}
-use Rattle.units.proofs.Members.{Every, every-member, member-every}
+use Rattle.units.proofs.Members.{Every, every-member}
 use Rattle.units.proofs.Totals.{total-append}
 use Rattle.orders.specs.declared.order.Order.{Order}
 use Rattle.orders.specs.declared.order.Taker.{Taker}
@@ -19,22 +20,25 @@ use Rattle.matching.specs.declared.Paragraph.{Paragraph}
 use Rattle.matching.specs.declared.Paragraph.the-variants.{Two}
 use Rattle.matching.specs.declared.incoming.Incoming.{Incoming}
 use Rattle.matching.specs.Levels.{priceLevels}
-use Rattle.matching.specs.Paragraph.{groupOf, partOf, paragraphs}
+use Rattle.matching.specs.Paragraph.{groupOf, partOf, paragraphs, paragraphNumber}
 use Rattle.matching.specs.Take.{Allocation, used, allocationAt, allocationsAt, allocationsOver, allocations, outcome}
 use Rattle.matching.specs.Fairness.{gets, reaching}
 use Rattle.matching.proofs.Levels.{Sorted, levels-sorted, levels-have, better-irreflexive, better-apart, better-asymmetric}
-use Rattle.matching.proofs.Entries.{shareIn, gets-entries, executed-at}
+use Rattle.matching.proofs.Entries.{shareIn, picked-entries, executed-at}
 use Rattle.matching.proofs.Parts.{allotShare, partsAt, entry-is, entry-none, aligned-over}
-use Rattle.matching.proofs.Groups.{other-price, NothingIn, laterParagraphs}
+use Rattle.matching.proofs.Groups.{other-price}
 
 -- what the first paragraph at a price gives an order of the shares left
 abbrev pub firstShare : ℕ → Algorithm → Taker → List Order → ℕ → ℕ → Order → ℕ
 firstShare lot alg t os price left o = allotShare lot alg Two left (partsAt lot alg t os price Two) (partOf t price (groupOf lot alg Two) o)
 
 module _ (lot : ℕ) (alg : Algorithm) (t : Taker) (os : List Order) (rise : rising 0 os ≡ true) (o : Order) (i : List·Memᴰ o os) where
-  -- what the order has of allocations
+  -- what the order has of an allocation of the first paragraph, and of allocations
+  abbrev gotOf : Allocation → ℕ
+  gotOf a = orZero (eqb (paragraphNumber (a .paragraph)) (paragraphNumber Two)) (shareIn (o .number) os (a .allotment))
+
   abbrev got : List Allocation → ℕ
-  got rows = total (λ a. shareIn (o .number) os (a .allotment)) rows
+  got rows = total gotOf rows
 
   -- what allocations at prices better than its own use
   abbrev before : List Allocation → ℕ
@@ -46,12 +50,15 @@ module _ (lot : ℕ) (alg : Algorithm) (t : Taker) (os : List Order) (rise : ris
   abbrev over : List ℕ → ℕ → List Allocation
   over prices left = allocationsOver lot alg t os prices left
 
-  got-none : (price : ℕ) (gs : List Paragraph) → NothingIn lot alg t price o gs → (left : ℕ) → got (allocationsAt lot alg t os price gs left) ≡ 0
+  -- nothing at another price
+  got-none : (price : ℕ) → ¬ (priceOf o ≡ price) → (gs : List Paragraph) (left : ℕ) → got (allocationsAt lot alg t os price gs left) ≡ 0
   unfolding allocationsAt
-  got-none price [] h left = refl
-  got-none price (g ∷ gs) h left =
-      let a = entry-none lot alg t os rise price g left o i (h .0) in
-      let b = got-none price gs (h .1) (left - used (allocationAt lot alg t os price g left)) in
+  got-none price n [] left = refl
+  got-none price n (g ∷ gs) left =
+      let row = allocationAt lot alg t os price g left in
+      let a = entry-none lot alg t os rise price g left o i (other-price t price (groupOf lot alg g) o n) in
+      let b = pick-zero (eqb (paragraphNumber (row .paragraph)) (paragraphNumber Two)) a in
+      let c = got-none price n gs (left - used row) in
       omega arith
 
   before-level : (price : ℕ) (gs : List Paragraph) (left : ℕ)
@@ -63,12 +70,8 @@ module _ (lot : ℕ) (alg : Algorithm) (t : Taker) (os : List Order) (rise : ris
       let b = isBetter (t .side) price (priceOf o) in
       ap (λ n. orZero b (used a) + n) (before-level price gs (left - used a)) ∙ pick-add b (used a) (total used (allocationsAt lot alg t os price gs (left - used a)))
 
-  got-elsewhere : (price : ℕ) → ¬ (priceOf o ≡ price) → (left : ℕ) → got (level price left) ≡ 0
-  got-elsewhere price n left =
-      got-none price paragraphs (member-every (λ g. partOf t price (groupOf lot alg g) o .size ≡ 0) paragraphs (λ g m. other-price t price (groupOf lot alg g) o n)) left
-
   got-append : (rows rest : List Allocation) → got (rows ++ rest) ≡ got rows + got rest
-  got-append = total-append (λ a. shareIn (o .number) os (a .allotment))
+  got-append = total-append gotOf
 
   before-append : (rows rest : List Allocation) → before (rows ++ rest) ≡ before rows + before rest
   before-append = total-append (λ a. orZero (isBetter (t .side) (a .price) (priceOf o)) (used a))
@@ -81,53 +84,49 @@ module _ (lot : ℕ) (alg : Algorithm) (t : Taker) (os : List Order) (rise : ris
       let rows = level q left in
       let rest = over qs (left - total used rows) in
       let w = got-worse qs (h .1) (left - total used rows) in
-      let a = got-elsewhere q (better-apart (t .side) (priceOf o) q (h .0)) left in
+      let a = got-none q (better-apart (t .side) (priceOf o) q (h .0)) paragraphs left in
       let b = before-level q paragraphs left ∙ ap (λ c. orZero c (total used rows)) (better-asymmetric (t .side) (priceOf o) q (h .0)) in
       let c = got-append rows rest in
       let d = before-append rows rest in
       (omega (arith, w .0), omega (arith, w .1))
 
-  module _ (later : NothingIn lot alg t (priceOf o) o laterParagraphs) where
-    -- its share of the first paragraph at its price
-    abbrev share : ℕ → ℕ
-    share left = firstShare lot alg t os (priceOf o) left o
+  -- its share of the first paragraph at its price
+  abbrev share : ℕ → ℕ
+  share left = firstShare lot alg t os (priceOf o) left o
 
-    got-here : (left : ℕ) → got (level (priceOf o) left) ≡ share left
-    unfolding allocationsAt
-    got-here left =
-        let a = entry-is lot alg t os rise (priceOf o) Two left o i in
-        let b = got-none (priceOf o) laterParagraphs later (left - used (allocationAt lot alg t os (priceOf o) Two left)) in
-        omega arith
+  got-here : (left : ℕ) → got (level (priceOf o) left) ≡ share left
+  unfolding allocationsAt allocationAt
+  got-here left = omega (arith, entry-is lot alg t os rise (priceOf o) Two left o i)
 
-    got-over : (prices : List ℕ) → Sorted (t .side) prices → List·Memᴰ (priceOf o) prices → (left : ℕ)
-        → got (over prices left) ≡ share (left - before (over prices left))
-    unfolding allocationsOver
-    got-over (q ∷ qs) s (List·Memᴰ·head e) left =
-        subst (λ (p : ℕ). Every (λ x. isBetter (t .side) p x ≡ true) qs → got (over (p ∷ qs) left) ≡ share (left - before (over (p ∷ qs) left))) e first (s .0)
-      where
-        first : Every (λ x. isBetter (t .side) (priceOf o) x ≡ true) qs → got (over (priceOf o ∷ qs) left) ≡ share (left - before (over (priceOf o ∷ qs) left))
-        first h =
-            let rows = level (priceOf o) left in
-            let rest = over qs (left - total used rows) in
-            let w = got-worse qs h (left - total used rows) in
-            let a = got-here left in
-            let b = before-level (priceOf o) paragraphs left ∙ ap (λ c. orZero c (total used rows)) (better-irreflexive (t .side) (priceOf o)) in
-            let c = got-append rows rest in
-            let d = before-append rows rest in
-            let x : got (rows ++ rest) ≡ share left = omega (arith, w .0) in
-            let y : left ≡ left - before (rows ++ rest) = omega (arith, w .1) in
-            x ∙ ap share y
-    got-over (q ∷ qs) s (List·Memᴰ·tail k) left =
-        let rows = level q left in
-        let rest = over qs (left - total used rows) in
-        let z = every-member (λ x. isBetter (t .side) q x ≡ true) qs (s .0) (priceOf o) k in
-        let a = got-elsewhere q (λ e. better-apart (t .side) q (priceOf o) z (sym e)) left in
-        let b = before-level q paragraphs left ∙ ap (λ c. orZero c (total used rows)) z in
-        let c = got-append rows rest in
-        let d = before-append rows rest in
-        let x : got (rows ++ rest) ≡ got rest = omega arith in
-        let y : left - total used rows - before rest ≡ left - before (rows ++ rest) = omega arith in
-        x ∙ got-over qs (s .1) k (left - total used rows) ∙ ap share y
+  got-over : (prices : List ℕ) → Sorted (t .side) prices → List·Memᴰ (priceOf o) prices → (left : ℕ)
+      → got (over prices left) ≡ share (left - before (over prices left))
+  unfolding allocationsOver
+  got-over (q ∷ qs) s (List·Memᴰ·head e) left =
+      subst (λ (p : ℕ). Every (λ x. isBetter (t .side) p x ≡ true) qs → got (over (p ∷ qs) left) ≡ share (left - before (over (p ∷ qs) left))) e first (s .0)
+    where
+      first : Every (λ x. isBetter (t .side) (priceOf o) x ≡ true) qs → got (over (priceOf o ∷ qs) left) ≡ share (left - before (over (priceOf o ∷ qs) left))
+      first h =
+          let rows = level (priceOf o) left in
+          let rest = over qs (left - total used rows) in
+          let w = got-worse qs h (left - total used rows) in
+          let a = got-here left in
+          let b = before-level (priceOf o) paragraphs left ∙ ap (λ c. orZero c (total used rows)) (better-irreflexive (t .side) (priceOf o)) in
+          let c = got-append rows rest in
+          let d = before-append rows rest in
+          let x : got (rows ++ rest) ≡ share left = omega (arith, w .0) in
+          let y : left ≡ left - before (rows ++ rest) = omega (arith, w .1) in
+          x ∙ ap share y
+  got-over (q ∷ qs) s (List·Memᴰ·tail k) left =
+      let rows = level q left in
+      let rest = over qs (left - total used rows) in
+      let z = every-member (λ x. isBetter (t .side) q x ≡ true) qs (s .0) (priceOf o) k in
+      let a = got-none q (λ e. better-apart (t .side) q (priceOf o) z (sym e)) paragraphs left in
+      let b = before-level q paragraphs left ∙ ap (λ c. orZero c (total used rows)) z in
+      let c = got-append rows rest in
+      let d = before-append rows rest in
+      let x : got (rows ++ rest) ≡ got rest = omega arith in
+      let y : left - total used rows - before rest ≡ left - before (rows ++ rest) = omega arith in
+      x ∙ got-over qs (s .1) k (left - total used rows) ∙ ap share y
 
 module _ (lot : ℕ) (alg : Algorithm) (i : Incoming) (os : List Order) where
   abbrev es : List Execution
@@ -142,15 +141,13 @@ module _ (lot : ℕ) (alg : Algorithm) (i : Incoming) (os : List Order) where
       (executed-at (λ p. isBetter (i .taker .side) p price) os (allocations lot alg i os) (aligned-over lot alg (i .taker) os (priceLevels (i .taker) os) (i .size .0)))
 
   module _ (rise : rising 0 os ≡ true) (o : Order) (m : List·Memᴰ o os) (e : isTradable (i .taker) o ≡ true) where
-    gets-own : NothingIn lot alg (i .taker) (priceOf o) o laterParagraphs → gets es o ≡ firstShare lot alg (i .taker) os (priceOf o) (reaching i es (priceOf o)) o
-    unfolding outcome allocations
-    gets-own h =
-        gets-entries os (allocations lot alg i os) o
-        ∙ got-over lot alg (i .taker) os rise o m h (priceLevels (i .taker) os) (levels-sorted (i .taker) os) (levels-have (i .taker) os o m e) (i .size .0)
-        ∙ ap (share lot alg (i .taker) os rise o m h) (sym (reaching-is (priceOf o)))
+    gets-own : gets es o ≡ firstShare lot alg (i .taker) os (priceOf o) (reaching i es (priceOf o)) o
+    unfolding gets outcome allocations
+    gets-own =
+        picked-entries (λ g. eqb g (paragraphNumber Two)) os (allocations lot alg i os) (o .number)
+        ∙ got-over lot alg (i .taker) os rise o m (priceLevels (i .taker) os) (levels-sorted (i .taker) os) (levels-have (i .taker) os o m e) (i .size .0)
+        ∙ ap (share lot alg (i .taker) os rise o m) (sym (reaching-is (priceOf o)))
 
-    -- an order that may trade, and has nothing in the later paragraphs, gets its share of the first paragraph of what reaches its price
-    pub gets-share : (price : ℕ) → priceOf o ≡ price → NothingIn lot alg (i .taker) price o laterParagraphs
-        → gets es o ≡ firstShare lot alg (i .taker) os price (reaching i es price) o
-    gets-share price at h =
-        subst (λ (p : ℕ). NothingIn lot alg (i .taker) p o laterParagraphs → gets es o ≡ firstShare lot alg (i .taker) os p (reaching i es p) o) at gets-own h
+    -- what an order that may trade gets of the first paragraph is its share there of what reaches its price
+    pub gets-share : (price : ℕ) → priceOf o ≡ price → gets es o ≡ firstShare lot alg (i .taker) os price (reaching i es price) o
+    gets-share price at = rw (← at) gets-own

@@ -39,7 +39,7 @@ execution-named lot alg os bytes b =
       number = rw (b .are, decode-execution e (b .behind) (b .holds .1)) (p .number);
       paragraph = p .paragraph;
       inside = rw (p .inside) tt;
-      alone = λ g i. group-alone lot alg (p .order) (p .paragraph) g (p .inside) (T-true (inGroup (groupOf lot alg g) (p .order)) i);
+      alone = λ g v i. group-alone lot alg (p .order) (p .paragraph) g v (p .inside) (T-true (inGroup (groupOf lot alg g) (p .order)) i);
       byte2 = rw (b .are) (execution-byte2 e (b .behind) (b .holds .1) ∙ p .names);
       byte3 = rw (b .are) (execution-byte3 e (b .behind));
     }

@@ -1,20 +1,22 @@
 -- The last two clauses of the fairness demand: what is left over, and that it is left over only before minimums above it.
 use Prim.Native.Nat.{ℕ, _+_, _-_, _≤_, _<_}
 use mathlib.Core.Path.{_≡_, refl, sym, ap, _∙_}
-use mathlib.Core.Bool.{true}
+use mathlib.Core.Bool.{Bool, true, false, false≢true}
 use mathlib.Core.List.{List, List·Memᴰ}
 use native.Mathlib.Omega.{arith}
-use lib.Dec.{T}
-use borrow.Author.Tests.{ltb-true}
+use lib.Dec.{T, ltb}
+use borrow.Author.Tests.{ltb-true, ltb-false}
 use Rattle.units.specs.Lists.{total, zipWith}
 use Rattle.units.proofs.Tests.{and-true, T-true, true-T}
 use Rattle.units.proofs.Members.{filter-member}
 use Rattle.sharing.proofs.Filled.{Met, full, unmet}
 use Rattle.orders.specs.declared.order.Kind.{Kind}
-use Rattle.orders.specs.declared.order.Kind.the-variants.{Displayed, NonDisplayed, MinimumQuantity}
+use Rattle.orders.specs.declared.order.Kind.the-variants.{Displayed, NonDisplayed, MinimumQuantity, Reserve}
 use Rattle.orders.specs.declared.order.Order.{Order}
-use Rattle.orders.specs.Order.{Visibility, shown, hidden, Interest, sharesOf, interestBy, interestOf, sizeFrom, settled, isResting, isMinimumQuantity, minimumOf, priceOf, sizeOf}
+use Rattle.orders.specs.Order.{Visibility, shown, hidden, Interest, allShares, less, sharesOf, interestBy, interestOf, sizeFrom, settled, isResting}
+use Rattle.orders.specs.Order.{isMinimumQuantity, isReserve, minimumOf, priceOf, sizeOf}
 use Rattle.orders.specs.Trading.{isOppositeOf, withinLimit, isTradable}
+use Rattle.orders.proofs.Interests.{all-settled}
 use Rattle.record.proofs.Settling.{settled-side, settled-price, settled-size, settled-minimum, settled-minimum-quantity}
 use Rattle.book.proofs.Soundness.{OrdersSound, order-shares}
 use Rattle.matching.specs.declared.Algorithm.{Algorithm}
@@ -29,42 +31,40 @@ use Rattle.matching.proofs.Allotting.{allotment-filled}
 use Rattle.matching.proofs.Leftover.{all-within, all-met}
 use Rattle.matching.proofs.Losses.{zip-beside, beside-member, loss-shares}
 
--- the visibility that all of a kind's shares have
-visibilityOf : Kind → Visibility
-visibilityOf Displayed = shown
-visibilityOf NonDisplayed = hidden
-visibilityOf (MinimumQuantity m) = hidden
-
-whole-size : (o : Order) → sharesOf (visibilityOf (o .kind)) (interestOf o) ≡ sizeOf o
-unfolding visibilityOf
-whole-size o = go (o .kind)
+-- a loss that leaves shares leaves some of a visibility
+some-left : (i l : Interest) → 0 < allShares (less i l) → (v : Visibility) × (sharesOf v l < sharesOf v i)
+some-left i l h = go (ltb (l .displayed) (i .displayed)) refl
   where
-    go : (k : Kind) → sharesOf (visibilityOf k) (interestBy k (sizeOf o)) ≡ sizeOf o
-    go Displayed = refl
-    go NonDisplayed = refl
-    go (MinimumQuantity m) = refl
+    go : (b : Bool) → ltb (l .displayed) (i .displayed) ≡ b → (v : Visibility) × (sharesOf v l < sharesOf v i)
+    go true e = (shown, ltb-true (l .displayed) (i .displayed) e)
+    go false e = (hidden, omega (arith, ltb-false (l .displayed) (i .displayed) e))
 
-whole-loss : (k : Kind) (l : Interest) → sharesOf (visibilityOf k) l ≡ sizeFrom k l
-unfolding visibilityOf
-whole-loss Displayed l = refl
-whole-loss NonDisplayed l = refl
-whole-loss (MinimumQuantity m) l = refl
-
+-- only a minimum quantity order has a minimum above a number
 has-minimum : (k : Kind) (n : ℕ) → n < minimumOf k → isMinimumQuantity k ≡ true
 has-minimum Displayed n h = absurd (omega arith)
 has-minimum NonDisplayed n h = absurd (omega arith)
 has-minimum (MinimumQuantity m) n h = refl
+has-minimum (Reserve b r) n h = absurd (omega arith)
 
--- an order that rests after it was filled or passed over was passed over, and keeps its minimum
-rests-unmet : (o : Order) (l : Interest) (r : ℕ) → minimumOf (o .kind) ≤ sizeOf o
-    → Met r (wholePart (visibilityOf (o .kind)) o) (sharesOf (visibilityOf (o .kind)) l) → isResting (settled l o) ≡ true
-    → T (isMinimumQuantity (settled l o .kind)) × (r < minimumOf (settled l o .kind))
-rests-unmet o l r h (full e) k =
-    absurd (omega (arith, ltb-true 0 (sizeOf (settled l o)) k, settled-size l o, whole-size o, whole-loss (o .kind) l))
-rests-unmet o l r h (unmet e u) k = (
-  true-T (isMinimumQuantity (settled l o .kind)) (settled-minimum-quantity l o ∙ has-minimum (o .kind) r u),
-  omega (arith, settled-minimum l o, settled-size l o, whole-loss (o .kind) l),
-)
+-- its size is of the visibility of which it has shares, and so is what it loses
+whole-loss : (k : Kind) (size : ℕ) (v : Visibility) (l : Interest) → isMinimumQuantity k ≡ true → 0 < sharesOf v (interestBy k size)
+    → (isReserve k ≡ false) × (sizeFrom k l ≡ sharesOf v l)
+whole-loss Displayed size v l e h = absurd (false≢true e)
+whole-loss NonDisplayed size v l e h = absurd (false≢true e)
+whole-loss (MinimumQuantity m) size shown l e h = absurd (omega arith)
+whole-loss (MinimumQuantity m) size hidden l e h = (refl, refl)
+whole-loss (Reserve b r) size v l e h = absurd (false≢true e)
+
+-- an order that still has shares of a visibility after these were filled or passed over was passed over, and keeps its minimum
+rests-unmet : (o : Order) (l : Interest) (r : ℕ) → minimumOf (o .kind) ≤ sizeOf o → (v : Visibility) → sharesOf v l < sharesOf v (interestOf o)
+    → Met r (wholePart v o) (sharesOf v l) → T (isMinimumQuantity (settled l o .kind)) × (r < minimumOf (settled l o .kind))
+rests-unmet o l r h v k (full e) = absurd (omega arith)
+rests-unmet o l r h v k (unmet e u) =
+    let m = has-minimum (o .kind) r u in
+    let w = whole-loss (o .kind) (sizeOf o) v l m (omega arith) in (
+      true-T (isMinimumQuantity (settled l o .kind)) (settled-minimum-quantity l o ∙ m),
+      omega (arith, settled-minimum l o, settled-size l o (w .0), w .1),
+    )
 
 module _ (lot : ℕ) (hl : 0 < lot) (alg : Algorithm) (i : Incoming) (os : List Order) (sound : OrdersSound os) where
   abbrev rows : List Allocation
@@ -90,12 +90,13 @@ module _ (lot : ℕ) (hl : 0 < lot) (alg : Algorithm) (i : Incoming) (os : List 
       let k = beside-member (z .2) in
       let e : isTradable (i .taker) o ≡ true = sym (same o l) ∙ (ap (isTradable (i .taker)) (sym (z .3)) ∙ T-true (isTradable (i .taker) y) t) in
       let u = and-true (isOppositeOf (i .taker) o) (withinLimit (i .taker .side) (i .taker .limit .0) (priceOf o)) e in
-      let v = visibilityOf (o .kind) in
+      let p = some-left (interestOf o) l (omega (arith, all-settled l o, ltb-true 0 (allShares (interestOf (settled l o))) (ap isResting (sym (z .3)) ∙ f .1))) in
+      let v = p .0 in
       let n = all-met lot alg (i .taker) os (sound .rise)
-      (λ price g left. allotment-filled lot hl (i .taker) os (sound .rise) (sound .setters) price left alg g) v o k (u .0) (omega (arith, whole-size o, order-shares os sound o k .1))
+      (λ price g left. allotment-filled lot hl (i .taker) os (sound .rise) (sound .setters) price left alg g) v o k (u .0) (omega (arith, p .1))
       (priceLevels (i .taker) os) (levels-sorted (i .taker) os) (levels-have (i .taker) os o k e) (i .size .0) (omega arith) in
       let b : Met (i .size .0 - total used rows) (wholePart v o) (sharesOf v l) = rw (loss-shares os (sound .rise) rows (z .2) v) n in
-      rw (z .3) (rests-unmet o l (i .size .0 - total used rows) (order-shares os sound o k .0) b (ap isResting (sym (z .3)) ∙ f .1))
+      rw (z .3) (rests-unmet o l (i .size .0 - total used rows) (order-shares os sound o k .0) v (p .1) b)
     where
       same : (o : Order) (l : Interest) → isTradable (i .taker) (settled l o) ≡ isTradable (i .taker) o
       same o l = rw (settled-side l o, settled-price l o)

@@ -5,7 +5,7 @@ use mathlib.Core.List.{List, [], _∷_}
 use Rattle.orders.specs.declared.order.Side.{Side}
 use Rattle.orders.specs.declared.order.Side.the-variants.{Buy, Sell}
 use Rattle.orders.specs.declared.order.Kind.{Kind}
-use Rattle.orders.specs.declared.order.Kind.the-variants.{Displayed, NonDisplayed, MinimumQuantity}
+use Rattle.orders.specs.declared.order.Kind.the-variants.{Displayed, NonDisplayed, MinimumQuantity, Reserve}
 use Rattle.orders.specs.declared.order.Order.{Order}
 use Rattle.matching.specs.declared.incoming.Incoming.{Incoming}
 
@@ -31,6 +31,16 @@ marked n size = order Sell Displayed true n 100000 size
 -- a minimum quantity sell at 100000: number, size, minimum
 abbrev pub minimum : ℕ → ℕ → ℕ → Order
 minimum n size m = sell (MinimumQuantity (record { 0 = m })) n 100000 size
+
+-- a reserve sell at 100000, with a mark or without: number, shown shares, hidden shares, refresh size
+abbrev reserveOf : Bool → ℕ → ℕ → ℕ → ℕ → Order
+reserveOf setter n size hidden refresh = order Sell (Reserve (record { 0 = hidden }) (record { 0 = refresh })) setter n 100000 size
+
+abbrev pub reserve : ℕ → ℕ → ℕ → ℕ → Order
+reserve = reserveOf false
+
+abbrev pub markedReserve : ℕ → ℕ → ℕ → ℕ → Order
+markedReserve = reserveOf true
 
 -- sells of one kind at 100000, of these sizes, numbered from n on
 abbrev pub sells : Kind → ℕ → List ℕ → List Order

@@ -1,4 +1,4 @@
--- Worked values of take, computed by the checker: through two prices, through all five paragraphs, and refused on bytes.
+-- Worked values of take, computed by the checker: through two prices, through all five paragraphs, what rests, and on bytes.
 use Prim.Native.Nat.{ℕ}
 use mathlib.Core.Path.{_≡_, refl}
 use mathlib.Core.Bool.{Bool, true, _&&_}
@@ -24,18 +24,15 @@ use Rattle.matching.specs.Paragraph.{partOf}
 use Rattle.matching.specs.Take.{allocationAt, allocationsAt, allocationsOver, allocations, executionsOf, lossesOf, Outcome, outcome}
 use Rattle.matching.specs.TakeCall.{TakeAnswer, outcomeOf, written, takeCall}
 use Rattle.matching.specs.Fairness.{reaching, counted, guaranteed, LotBounds}
-use Rattle.matching.specs.ExampleBooks.{sell, marked, sells, bid, incoming, threePrices, everyKind}
+use Rattle.matching.specs.ExampleBooks.{sell, marked, reserve, sells, bid, incoming, threePrices, everyKind}
 
--- an outcome's numbers: of the executions, their orders, prices, shares and paragraphs; the shares left; of the orders that rest, their
--- numbers and sizes
+-- an outcome's numbers: of the executions, their orders, prices, shares and paragraphs; the shares left
 record Due : Type 0 where
   orders : List ℕ
   prices : List ℕ
   shares : List ℕ
   paragraphs : List ℕ
   left : ℕ
-  rest : List ℕ
-  sizes : List ℕ
 
 holds : Outcome → Due → Bool
 holds o d =
@@ -44,11 +41,9 @@ holds o d =
     && sameNumbers (map (λ e. e .shares .0) (o .executions)) (d .shares)
     && sameNumbers (map (λ e. e .paragraph) (o .executions)) (d .paragraphs)
     && eqb (o .left) (d .left)
-    && sameNumbers (map (λ r. r .number) (o .orders)) (d .rest)
-    && sameNumbers (map sizeOf (o .orders)) (d .sizes)
 
-values : List Bool
-values =
+prices : List Bool
+prices =
     -- best price first, and nothing beyond the limit
     holds (outcome 100 ProRata (incoming Buy 100100 400) threePrices) (record {
       orders = 2 ∷ 1 ∷ [];
@@ -56,8 +51,6 @@ values =
       shares = 200 ∷ 200 ∷ [];
       paragraphs = 2 ∷ 2 ∷ [];
       left = 0;
-      rest = 1 ∷ 3 ∷ [];
-      sizes = 100 ∷ 100 ∷ [];
     }) ∷
     holds (outcome 100 PriceSetter (incoming Buy 100100 999) threePrices) (record {
       orders = 2 ∷ 1 ∷ [];
@@ -65,8 +58,6 @@ values =
       shares = 200 ∷ 300 ∷ [];
       paragraphs = 2 ∷ 2 ∷ [];
       left = 499;
-      rest = 3 ∷ [];
-      sizes = 100 ∷ [];
     }) ∷
     -- for an incoming sell the highest price is the best
     holds (outcome 100 PriceTime (incoming Sell 90000 350) (bid 1 100000 ∷ bid 2 100100 ∷ [])) (record {
@@ -75,18 +66,17 @@ values =
       shares = 300 ∷ 50 ∷ [];
       paragraphs = 2 ∷ 2 ∷ [];
       left = 0;
-      rest = 1 ∷ [];
-      sizes = 250 ∷ [];
-    }) ∷
-    -- through all paragraphs
+    }) ∷ []
+
+-- through all paragraphs
+through : List Bool
+through =
     holds (outcome 100 ProRata (incoming Buy 100000 1000) everyKind) (record {
       orders = 5 ∷ 1 ∷ 4 ∷ 3 ∷ 2 ∷ [];
       prices = 100000 ∷ 100000 ∷ 100000 ∷ 100000 ∷ 100000 ∷ [];
       shares = 100 ∷ 99 ∷ 300 ∷ 200 ∷ 50 ∷ [];
       paragraphs = 2 ∷ 3 ∷ 4 ∷ 5 ∷ 6 ∷ [];
       left = 251;
-      rest = [];
-      sizes = [];
     }) ∷
     holds (outcome 100 PriceTime (incoming Buy 100000 700) everyKind) (record {
       orders = 1 ∷ 5 ∷ 2 ∷ 3 ∷ 4 ∷ [];
@@ -94,9 +84,19 @@ values =
       shares = 99 ∷ 100 ∷ 50 ∷ 200 ∷ 251 ∷ [];
       paragraphs = 2 ∷ 2 ∷ 3 ∷ 3 ∷ 3 ∷ [];
       left = 0;
-      rest = 4 ∷ [];
-      sizes = 49 ∷ [];
     }) ∷ []
+
+-- the orders that a buy at 100100 leaves, by number and size: what is left of one filled in part, no filled one, all beyond the limit
+leaves : ℕ → List Order → List ℕ → List ℕ → Bool
+leaves size os numbers sizes =
+    let rest = outcome 100 ProRata (incoming Buy 100100 size) os .orders in
+    sameNumbers (map (λ o. o .number) rest) numbers && sameNumbers (map sizeOf rest) sizes
+
+resting : List Bool
+resting =
+    leaves 200 (sells Displayed 1 (300 ∷ [])) (1 ∷ []) (100 ∷ []) ∷
+    leaves 300 (sells Displayed 1 (300 ∷ [])) [] [] ∷
+    leaves 999 threePrices (3 ∷ []) (100 ∷ []) ∷ []
 
 -- take on bytes: side, limit, size, algorithm
 take : ℕ → ℕ → ℕ → ℕ → List ℕ → List ℕ → TakeAnswer
@@ -114,7 +114,7 @@ book : List ℕ
 book = bookOf 3 threePrices
 
 damaged : List ℕ
-damaged = set book 95 1
+damaged = set book 119 1
 
 short : List ℕ
 short = replicate 31 7
@@ -138,20 +138,35 @@ calls =
     accepted (take 1 100100 200 2 book short) 1 0 ∷
     accepted (take 1 99999 200 2 book []) 0 200 ∷
     accepted (take 1 100000 10 1 [] []) 0 10 ∷
-    sameNumbers (drop 16 (take 1 100100 200 2 book short .executions)) (replicate 15 7) ∷
     -- algorithms 1, 2 and 3: how many orders of 99 and 100 give 100 shares, and of a setter's 300 and 250, 250, 200 give 500
     accepted (take 1 100000 100 1 (bookOf 2 (sells Displayed 1 (99 ∷ 100 ∷ []))) room) 2 0 ∷
     accepted (take 1 100000 100 2 (bookOf 2 (sells Displayed 1 (99 ∷ 100 ∷ []))) room) 1 0 ∷
     accepted (take 1 100000 500 2 withMarked room) 4 0 ∷
     accepted (take 1 100000 500 3 withMarked room) 3 0 ∷ []
 
+-- the bytes behind the last execution keep their content
+behind : Bool
+behind = sameNumbers (drop 16 (take 1 100100 200 2 book short .executions)) (replicate 15 7)
+
 called : all (λ b. b) calls ≡ true
 unfolding calls short room withMarked damaged book accepted refused take takeCall written outcomeOf outcome lossesOf executionsOf allocations allocationsOver allocationsAt allocationAt partOf priceLevels setterSharing besideSetter lotSharing round goesRound sound ordersOf bookOf encode decode numbersOf orderOf numbersSound withInterest settled
 called = refl
 
-worked : all (λ b. b) values ≡ true
-unfolding values holds outcome lossesOf executionsOf allocations allocationsOver allocationsAt allocationAt partOf priceLevels setterSharing besideSetter lotSharing round goesRound withInterest settled
-worked = refl
+behind-kept : behind ≡ true
+unfolding behind short book take takeCall written outcomeOf outcome lossesOf executionsOf allocations allocationsOver allocationsAt allocationAt partOf priceLevels setterSharing besideSetter lotSharing round goesRound sound ordersOf bookOf encode decode numbersOf orderOf numbersSound withInterest settled
+behind-kept = refl
+
+prices-worked : all (λ b. b) prices ≡ true
+unfolding prices holds outcome lossesOf executionsOf allocations allocationsOver allocationsAt allocationAt partOf priceLevels setterSharing besideSetter lotSharing round goesRound withInterest settled
+prices-worked = refl
+
+through-worked : all (λ b. b) through ≡ true
+unfolding through holds outcome lossesOf executionsOf allocations allocationsOver allocationsAt allocationAt partOf priceLevels lotSharing round goesRound withInterest settled
+through-worked = refl
+
+resting-worked : all (λ b. b) resting ≡ true
+unfolding resting leaves outcome lossesOf executionsOf allocations allocationsOver allocationsAt allocationAt partOf priceLevels lotSharing round goesRound withInterest settled
+resting-worked = refl
 
 -- The demand's words: what reaches each price where 200 were taken at 100000, for a buy and for a sell; what of an order counts at a
 -- price; two fifths, rounded down, or the size.
@@ -173,6 +188,9 @@ words =
     counts 0 (sell NonDisplayed 1 100000 300) ∷
     counts 0 (sell Displayed 1 100100 300) ∷
     counts 0 (bid 1 100000) ∷
+    -- of a reserve order what it shows alone
+    counts 100 (reserve 1 100 250 100) ∷
+    counts 0 (reserve 1 99 250 100) ∷
     eqb (guaranteed 81 1000) 32 ∷
     eqb (guaranteed 84 1000) 33 ∷
     eqb (guaranteed 500 100) 100 ∷ []

@@ -1,5 +1,6 @@
 -- The fairness demand, demand 3 of the scope. It speaks of the orders at entry, the executions, the shares left and the orders
--- afterwards, and of nothing inside take.
+-- afterwards, and of nothing inside take. The shares that an order displays are a part of it, with the size that they have at entry and
+-- an execution of their own; those that a reserve order hides are another.
 use Prim.Native.Nat.{ℕ, _+_, _-_, _*_, _/_, _≤_, _<_, min}
 use mathlib.Core.Path.{_≡_}
 use mathlib.Core.Bool.{_&&_}
@@ -15,33 +16,36 @@ use Rattle.record.specs.Execution.{executionsIn}
 use Rattle.book.specs.Sound.{ordersOf}
 use Rattle.matching.specs.declared.Algorithm.{Algorithm}
 use Rattle.matching.specs.declared.Algorithm.the-variants.{PriceTime, PriceSetter}
+use Rattle.matching.specs.declared.Paragraph.the-variants.{Two}
 use Rattle.matching.specs.declared.incoming.Incoming.{Incoming}
-use Rattle.matching.specs.Paragraph.{algorithmOf}
+use Rattle.matching.specs.Paragraph.{algorithmOf, paragraphNumber}
 use Rattle.matching.specs.declared.TakeRequest.{TakeRequest}
 use Rattle.matching.specs.TakeCall.{incomingOf, TakeAnswer}
 
 abbrev pub executedShares : Execution → ℕ
 executedShares e = e .shares .0
 
--- what an order gets: the shares of its execution, 0 without one
+-- what an order's displayed part of a round lot or more gets: the shares of the execution with its order's number and its paragraph,
+-- the second; 0 without one
 unfoldable pub gets : List Execution → Order → ℕ
-gets es o = total (λ e. orZero (eqb (e .number) (o .number)) (executedShares e)) es
+gets es o = total (λ e. orZero (eqb (e .number) (o .number) && eqb (e .paragraph) (paragraphNumber Two)) (executedShares e)) es
 
 -- what reaches a price: the incoming size less the shares of all executions at better prices
 unfoldable pub reaching : Incoming → List Execution → ℕ → ℕ
 reaching i es price = i .size .0 - total (λ e. orZero (isBetter (i .taker .side) (e .price .0) price) (executedShares e)) es
 
--- what of an order counts at a price: its displayed shares where it is an opposite order there and they are a round lot or more
+-- what of an order counts at a price: the size of its displayed part, where it is an opposite order there and the part is a round lot or
+-- more
 unfoldable pub counted : ℕ → Incoming → ℕ → Order → ℕ
 counted lot i price o =
     let n = interestOf o .displayed in
     orZero (isOppositeOf (i .taker) o && eqb (priceOf o) price && leb lot n) n
 
--- the smaller of the setter's size and two fifths of the shares divided, rounded down to a share
+-- the smaller of the size of the setter's part and two fifths of the shares divided, rounded down to a share
 abbrev pub guaranteed : ℕ → ℕ → ℕ
 guaranteed d size = min size (2 * d / 5)
 
--- n shares of an order of this size, where d shares are divided among orders of total t: at least its exact share size × d ÷ t,
+-- n shares of a part of this size, where d shares are divided among parts of total t: at least its exact share size × d ÷ t,
 -- rounded down to whole lots, at most one lot above that, and never more than its size
 pub record LotBounds (lot d t size n : ℕ) : Type 0 where
   pub atLeast : roundDown lot (size * d / t) ≤ n
@@ -61,7 +65,7 @@ module _ (lot : ℕ) (alg : Algorithm) (i : Incoming) (os : List Order) (es : Li
   abbrev pub dividedAt : ℕ → ℕ
   dividedAt price = min (totalAt price) (reaching i es price)
 
-  -- an opposite displayed order of a round lot or more, at a price within the limit that shares reach
+  -- an opposite order whose displayed part is a round lot or more, at a price within the limit that shares reach
   pub record Sharing (o : Order) : Type 0 where
     pub member : List·Memᴰ o os
     pub counts : 0 < countedSize o

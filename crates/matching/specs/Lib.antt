@@ -6,8 +6,12 @@ pub mod Take
 pub mod TakeCall
 pub mod Fairness
 pub mod Naming
+pub mod Parts
+pub mod Reserve
+pub mod Before
 pub mod ExampleBooks
 pub mod Examples
 pub mod ParagraphExamples
 pub mod Unfair
 pub mod NamingExamples
+pub mod ReserveExamples

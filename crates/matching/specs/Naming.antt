@@ -14,15 +14,16 @@ use Rattle.matching.specs.declared.TakeRequest.{TakeRequest}
 use Rattle.matching.specs.Paragraph.{algorithmOf, paragraphNumber, groupOf, inGroup}
 use Rattle.matching.specs.TakeCall.{TakeAnswer}
 
--- The execution at the start of these bytes is of one of the orders. Byte 2 is the number of the paragraph in whose group the order is,
--- which is in no other's, and byte 3 is zero.
+-- The execution at the start of these bytes is of one of the orders. Byte 2 is the number of the paragraph in whose group the order is
+-- with its shares of the group's visibility, which are in no other's, and byte 3 is zero.
 pub record Named (lot : ℕ) (alg : Algorithm) (os : List Order) (bytes : List ℕ) : Type 0 where
   pub order : Order
   pub member : List·Memᴰ order os
   pub number : decodeExecution bytes .number ≡ order .number
   pub paragraph : Paragraph
   pub inside : T (inGroup (groupOf lot alg paragraph) order)
-  pub alone : (g : Paragraph) → T (inGroup (groupOf lot alg g) order) → g ≡ paragraph
+  pub alone : (g : Paragraph) → groupOf lot alg g .visibility ≡ groupOf lot alg paragraph .visibility → T (inGroup (groupOf lot alg g) order)
+      → g ≡ paragraph
   pub byte2 : getD bytes 2 0 ≡ paragraphNumber paragraph
   pub byte3 : getD bytes 3 0 ≡ 0
 

@@ -12,12 +12,12 @@ use Rattle.sharing.specs.Lots.{lotSharing}
 use Rattle.sharing.specs.Setter.{besideSetter, setterSharing}
 use Rattle.orders.specs.declared.order.Kind.the-variants.{Displayed, NonDisplayed}
 use Rattle.orders.specs.declared.order.Order.{Order}
-use Rattle.orders.specs.Order.{withInterest, settled}
+use Rattle.orders.specs.Order.{shown, hidden, withInterest, settled}
 use Rattle.record.specs.Codec.{encode, decode}
 use Rattle.record.specs.Record.{numbersOf, orderOf, numbersSound}
 use Rattle.record.specs.Execution.{executionBytes, encodeExecution, executionOf, decodeExecution}
 use Rattle.book.specs.Sound.{sound, ordersOf, bookOf}
-use Rattle.matching.specs.declared.Algorithm.the-variants.{PriceTime}
+use Rattle.matching.specs.declared.Algorithm.the-variants.{PriceTime, ProRata}
 use Rattle.matching.specs.declared.Paragraph.{Paragraph}
 use Rattle.matching.specs.declared.Paragraph.the-variants.{Two, Three, Four, Five, Six}
 use Rattle.matching.specs.Levels.{priceLevels}
@@ -25,7 +25,7 @@ use Rattle.matching.specs.Paragraph.{paragraphNumber, groupOf, inGroup, 
 use Rattle.matching.specs.Take.{allocationAt, allocationsAt, allocationsOver, allocations, executionsOf, lossesOf, outcome}
 use Rattle.matching.specs.TakeCall.{outcomeOf, written, takeCall}
 use Rattle.matching.specs.Naming.{Named, NamedTake}
-use Rattle.matching.specs.ExampleBooks.{sell, marked, minimum, sells}
+use Rattle.matching.specs.ExampleBooks.{sell, marked, minimum, reserve, sells}
 
 -- of so many executions from the start of a buffer: number, byte 2 and byte 3
 told : ℕ → List ℕ → List ℕ
@@ -50,9 +50,12 @@ k = bookOf 2 (sell NonDisplayed 1 100000 50 ∷ minimum 2 200 200 ∷ [])
 two : List ℕ
 two = bookOf 4 (sell Displayed 1 100100 300 ∷ sell NonDisplayed 2 100000 30 ∷ sell NonDisplayed 3 100000 200 ∷ sell Displayed 4 100100 50 ∷ [])
 
+-- each paragraph of pro rata
+each : Bool
+each = tells 2 670 five (1 ∷ 2 ∷ 0 ∷ 2 ∷ 3 ∷ 0 ∷ 3 ∷ 4 ∷ 0 ∷ 4 ∷ 5 ∷ 0 ∷ 5 ∷ 6 ∷ 0 ∷ [])
+
 values : List Bool
 values =
-    tells 2 670 five (1 ∷ 2 ∷ 0 ∷ 2 ∷ 3 ∷ 0 ∷ 3 ∷ 4 ∷ 0 ∷ 4 ∷ 5 ∷ 0 ∷ 5 ∷ 6 ∷ 0 ∷ []) ∷
     tells 1 670 five (1 ∷ 2 ∷ 0 ∷ 2 ∷ 2 ∷ 0 ∷ 3 ∷ 3 ∷ 0 ∷ 4 ∷ 3 ∷ 0 ∷ 5 ∷ 3 ∷ 0 ∷ []) ∷
     tells 1 220 k (1 ∷ 3 ∷ 0 ∷ []) ∷
     tells 2 220 k (2 ∷ 5 ∷ 0 ∷ 1 ∷ 6 ∷ 0 ∷ []) ∷
@@ -60,11 +63,17 @@ values =
     tells 2 580 two (3 ∷ 4 ∷ 0 ∷ 2 ∷ 6 ∷ 0 ∷ 1 ∷ 2 ∷ 0 ∷ 4 ∷ 3 ∷ 0 ∷ []) ∷
     tells 1 580 two (2 ∷ 3 ∷ 0 ∷ 3 ∷ 3 ∷ 0 ∷ 1 ∷ 2 ∷ 0 ∷ 4 ∷ 2 ∷ 0 ∷ []) ∷
     -- a setter and the others beside it
-    tells 3 500 (bookOf 4 (marked 1 300 ∷ sells Displayed 2 (250 ∷ 250 ∷ 200 ∷ []))) (1 ∷ 2 ∷ 0 ∷ 2 ∷ 2 ∷ 0 ∷ 3 ∷ 2 ∷ 0 ∷ []) ∷ []
+    tells 3 500 (bookOf 4 (marked 1 300 ∷ sells Displayed 2 (250 ∷ 250 ∷ 200 ∷ []))) (1 ∷ 2 ∷ 0 ∷ 2 ∷ 2 ∷ 0 ∷ 3 ∷ 2 ∷ 0 ∷ []) ∷
+    -- both parts of a reserve order
+    tells 2 350 (bookOf 1 (reserve 1 100 250 100 ∷ [])) (1 ∷ 2 ∷ 0 ∷ 1 ∷ 4 ∷ 0 ∷ []) ∷ []
 
 worked : all (λ b. b) values ≡ true
 unfolding values tells told five k two takeCall written outcomeOf outcome lossesOf executionsOf allocations allocationsOver allocationsAt allocationAt partOf priceLevels setterSharing besideSetter lotSharing round goesRound sound ordersOf bookOf encode decode numbersOf orderOf numbersSound executionOf withInterest settled
 worked = refl
+
+each-worked : each ≡ true
+unfolding each tells told five takeCall written outcomeOf outcome lossesOf executionsOf allocations allocationsOver allocationsAt allocationAt partOf priceLevels lotSharing round goesRound sound ordersOf bookOf encode decode numbersOf orderOf numbersSound executionOf withInterest settled
+each-worked = refl
 
 -- a minimum quantity order, and the bytes of an execution of it with this in byte 2
 abbrev fourth : Order
@@ -72,6 +81,9 @@ fourth = minimum 4 100 50
 
 bytes : ℕ → List ℕ
 bytes p = encodeExecution (record { number = 4; price = record { 0 = 100000 }; shares = record { 0 = 70 }; paragraph = p })
+
+shown-hidden : shown ≡ hidden → ⊥
+shown-hidden e = let z : _≡_ {A = ℕ} 0 1 = cc in omega arith
 
 -- under price/time it is in the group of paragraph 3 and no other
 alone : (g : Paragraph) → T (inGroup (groupOf 100 PriceTime g) fourth) → g ≡ Three
@@ -83,7 +95,34 @@ alone Six i = absurd i
 
 named : Named 100 PriceTime (fourth ∷ []) (bytes 3)
 unfolding bytes encode decode executionOf
-named = record { order = fourth; member = List·Memᴰ·head refl; number = refl; paragraph = Three; inside = tt; alone = alone; byte2 = refl; byte3 = refl }
+named = record { order = fourth; member = List·Memᴰ·head refl; number = refl; paragraph = Three; inside = tt; alone = λ g v. alone g; byte2 = refl; byte3 = refl }
+
+-- each part of a reserve order is in a group, and the execution of either names its paragraph
+both : Order
+both = reserve 4 100 250 100
+
+alone-shown : (g : Paragraph) → groupOf 100 ProRata g .visibility ≡ shown → T (inGroup (groupOf 100 ProRata g) both) → g ≡ Two
+unfolding both
+alone-shown Two e i = refl
+alone-shown Three e i = absurd i
+alone-shown Four e i = absurd (shown-hidden (sym e))
+alone-shown Five e i = absurd i
+alone-shown Six e i = absurd i
+
+alone-hidden : (g : Paragraph) → groupOf 100 ProRata g .visibility ≡ hidden → T (inGroup (groupOf 100 ProRata g) both) → g ≡ Four
+unfolding both
+alone-hidden Two e i = absurd (shown-hidden e)
+alone-hidden Three e i = absurd i
+alone-hidden Four e i = refl
+alone-hidden Five e i = absurd i
+alone-hidden Six e i = absurd i
+
+both-named : Named 100 ProRata (both ∷ []) (bytes 2) × Named 100 ProRata (both ∷ []) (bytes 4)
+unfolding both bytes encode decode executionOf
+both-named = (
+  record { order = both; member = List·Memᴰ·head refl; number = refl; paragraph = Two; inside = tt; alone = alone-shown; byte2 = refl; byte3 = refl },
+  record { order = both; member = List·Memᴰ·head refl; number = refl; paragraph = Four; inside = tt; alone = alone-hidden; byte2 = refl; byte3 = refl },
+)
 
 -- the execution is of the order, and byte 2 is 3
 only : {o p : Order} → List·Memᴰ o (p ∷ []) → o ≡ p
@@ -91,7 +130,7 @@ only (List·Memᴰ·head e) = e
 only (List·Memᴰ·tail m) = absurd (List·Memᴰ·not-nil m)
 
 three : {x : List ℕ} → Named 100 PriceTime (fourth ∷ []) x → getD x 2 0 ≡ 3
-three n = n .byte2 ∙ sym (ap paragraphNumber (n .alone Three (subst (λ (o : Order). T (inGroup (groupOf 100 PriceTime Three) o)) (sym (only (n .member))) tt)))
+three n = n .byte2 ∙ ap paragraphNumber (alone (n .paragraph) (subst (λ (o : Order). T (inGroup (groupOf 100 PriceTime (n .paragraph)) o)) (only (n .member)) (n .inside)))
 
 -- neither its place, nor its number under pro rata; not in byte 3 too; of no other order
 misnamed : (Named 100 PriceTime (fourth ∷ []) (bytes 1) → ⊥) × (Named 100 PriceTime (fourth ∷ []) (bytes 5) → ⊥)

@@ -62,7 +62,7 @@ belowLot lot m n = ltb n lot
 abbrev pub withoutMinimum : (Bool → ℕ → Bool) → Bool → ℕ → Bool
 withoutMinimum test m n = not m && test m n
 
--- price/time: displayed orders, then all others together
+-- price/time: displayed shares, then all others together
 abbrev pub timeGroup : Paragraph → Group
 timeGroup Two = group shown everyOrder
 timeGroup Three = group hidden everyOrder
@@ -89,7 +89,7 @@ groupOf lot PriceSetter g = proRataGroup lot g
 abbrev pub inGroup : Group → Order → Bool
 inGroup g o = let n = sharesOf (g .visibility) (interestOf o) in ltb 0 n && g .holds (isMinimumQuantity (o .kind)) n
 
--- what of an order stands in a group at a price: its shares of that visibility, where it is an opposite order of the price
+-- the part of an order that stands in a group at a price: its shares of that visibility, where it is an opposite order of the price
 unfoldable pub partOf : Taker → ℕ → Group → Order → Part
 partOf t price g o =
     cond (isOppositeOf t o && eqb (priceOf o) price && inGroup g o)

@@ -18,12 +18,12 @@ use Rattle.matching.specs.Levels.{priceLevels}
 use Rattle.matching.specs.Paragraph.{paragraphNumber, partOf}
 use Rattle.matching.specs.Numbered.{paragraphNumbered}
 use Rattle.matching.specs.Take.{allocationAt, allocationsAt, allocationsOver, allocations, executionsOf, lossesOf, outcome}
-use Rattle.matching.specs.Fairness.{gets}
+use Rattle.matching.specs.Reserve.{executedOf}
 use Rattle.matching.specs.ExampleBooks.{marked, minimum, sells, bid, incoming}
 
 -- an incoming buy of this size gives these shares to the orders of the book
 gives : Algorithm → ℕ → List Order → List ℕ → Bool
-gives alg size os due = sameNumbers (map (gets (outcome 100 alg (incoming Buy 100000 size) os .executions)) os) due
+gives alg size os due = sameNumbers (map (executedOf (outcome 100 alg (incoming Buy 100000 size) os .executions)) os) due
 
 -- Who stands in a group at all: orders of the other side alone; an order of one share too, and each order once.
 membership : List Bool
@@ -77,31 +77,31 @@ paragraph6 =
     gives PriceSetter 50 (sells NonDisplayed 1 (30 ∷ 60 ∷ [])) (0 ∷ 50 ∷ []) ∷ []
 
 membership-worked : all (λ b. b) membership ≡ true
-unfolding membership gives gets outcome lossesOf executionsOf allocations allocationsOver allocationsAt allocationAt partOf priceLevels lotSharing round goesRound withInterest settled
+unfolding membership gives outcome lossesOf executionsOf allocations allocationsOver allocationsAt allocationAt partOf priceLevels lotSharing round goesRound withInterest settled
 membership-worked = refl
 
 paragraph-2-worked : all (λ b. b) paragraph2 ≡ true
-unfolding paragraph2 gives gets outcome lossesOf executionsOf allocations allocationsOver allocationsAt allocationAt partOf priceLevels lotSharing round goesRound withInterest settled
+unfolding paragraph2 gives outcome lossesOf executionsOf allocations allocationsOver allocationsAt allocationAt partOf priceLevels lotSharing round goesRound withInterest settled
 paragraph-2-worked = refl
 
 variation-worked : all (λ b. b) variation ≡ true
-unfolding variation gives gets outcome lossesOf executionsOf allocations allocationsOver allocationsAt allocationAt partOf priceLevels setterSharing besideSetter lotSharing round goesRound withInterest settled
+unfolding variation gives outcome lossesOf executionsOf allocations allocationsOver allocationsAt allocationAt partOf priceLevels setterSharing besideSetter lotSharing round goesRound withInterest settled
 variation-worked = refl
 
 paragraph-3-worked : all (λ b. b) paragraph3 ≡ true
-unfolding paragraph3 gives gets outcome lossesOf executionsOf allocations allocationsOver allocationsAt allocationAt partOf priceLevels setterSharing besideSetter lotSharing round goesRound withInterest settled
+unfolding paragraph3 gives outcome lossesOf executionsOf allocations allocationsOver allocationsAt allocationAt partOf priceLevels setterSharing besideSetter lotSharing round goesRound withInterest settled
 paragraph-3-worked = refl
 
 paragraph-4-worked : all (λ b. b) paragraph4 ≡ true
-unfolding paragraph4 gives gets outcome lossesOf executionsOf allocations allocationsOver allocationsAt allocationAt partOf priceLevels setterSharing besideSetter lotSharing round goesRound withInterest settled
+unfolding paragraph4 gives outcome lossesOf executionsOf allocations allocationsOver allocationsAt allocationAt partOf priceLevels setterSharing besideSetter lotSharing round goesRound withInterest settled
 paragraph-4-worked = refl
 
 paragraph-5-worked : all (λ b. b) paragraph5 ≡ true
-unfolding paragraph5 gives gets outcome lossesOf executionsOf allocations allocationsOver allocationsAt allocationAt partOf priceLevels setterSharing besideSetter lotSharing round goesRound withInterest settled
+unfolding paragraph5 gives outcome lossesOf executionsOf allocations allocationsOver allocationsAt allocationAt partOf priceLevels setterSharing besideSetter lotSharing round goesRound withInterest settled
 paragraph-5-worked = refl
 
 paragraph-6-worked : all (λ b. b) paragraph6 ≡ true
-unfolding paragraph6 gives gets outcome lossesOf executionsOf allocations allocationsOver allocationsAt allocationAt partOf priceLevels setterSharing besideSetter lotSharing round goesRound withInterest settled
+unfolding paragraph6 gives outcome lossesOf executionsOf allocations allocationsOver allocationsAt allocationAt partOf priceLevels setterSharing besideSetter lotSharing round goesRound withInterest settled
 paragraph-6-worked = refl
 
 -- a number below the first paragraph's, each of theirs, and one behind the last

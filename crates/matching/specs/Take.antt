@@ -13,7 +13,8 @@ use Rattle.matching.specs.declared.incoming.Incoming.{Incoming}
 use Rattle.matching.specs.Levels.{priceLevels}
 use Rattle.matching.specs.Paragraph.{paragraphs, paragraphNumber, groupOf, partOf, allot}
 
--- What one paragraph gives at one price. The allotment stands beside the book's orders: one number of shares each.
+-- What one paragraph gives at one price. The allotment stands beside the book's orders: one number of shares each, of the visibility that
+-- the paragraph's group has.
 pub record Allocation : Type 0 where
   pub price : ℕ
   pub paragraph : Paragraph
@@ -55,7 +56,7 @@ module _ (lot : ℕ) (alg : Algorithm) (t : Taker) (os : List Order) where
 unfoldable pub allocations : ℕ → Algorithm → Incoming → List Order → List Allocation
 allocations lot alg i os = allocationsOver lot alg (i .taker) os (priceLevels (i .taker) os) (i .size .0)
 
--- one execution for each order that received shares, at the resting order's price
+-- one execution for each part that received shares, at the resting order's price
 abbrev pub executionsBy : ℕ → ℕ → List Order → List ℕ → List Execution
 executionsBy g price [] ns = []
 executionsBy g price (o ∷ os) [] = []
@@ -78,7 +79,7 @@ pub record Outcome : Type 0 where
   pub left : ℕ
   pub orders : List Order
 
--- of allocations: a partly filled order keeps what is left of it, and a filled one leaves
+-- of allocations: a partly filled order keeps what is left of it, a reserve order refreshed where it shows none, and a filled one leaves
 abbrev pub yielded : Incoming → List Order → List Allocation → Outcome
 yielded i os rows = record {
   executions = executionsOf os rows;

@@ -37,7 +37,7 @@ fn sell(number: u32) -> Order {
 
 // Sells 1 to 256, in a book with room for them.
 fn fill(book: &mut [u8])
-    requires { ⌜ length (now book) ≡ 8192 ⌝ }
+    requires { ⌜ length (now book) ≡ 10240 ⌝ }
 {
     let mut k = 0;
     while k < 256 {
@@ -63,7 +63,7 @@ fn lose(losses: &mut [u32; 256], from: usize, every: usize, shares: u32)
 
 // A full book settled with these losses: which orders leave, the number of moves, and what check says of the book then.
 fn settle(words: &[u8], losses: &[u32; 256]) {
-    let mut space = [0u8; 8192];
+    let mut space = [0u8; 10240];
     let book: &mut [u8] = &mut space;
     fill(book);
     let checked = lookup::check(book);

@@ -1,1 +1,2 @@
 pub mod Interests
+pub mod KindTests

@@ -2,8 +2,9 @@
 use units::Price;
 use units::Shares;
 ghost use mathlib.Core.Path.{_≡_};
-ghost use Rattle.orders.specs.Order.{sideNumber, sideOf, kindNumber, kindOf, minimumOf, isDisplayed, isMinimumQuantity};
-ghost use Rattle.orders.specs.Order.{interest, interestOf, allShares, settled, isResting};
+ghost use lib.Dec.{leb};
+ghost use Rattle.orders.specs.Order.{sideNumber, sideOf, kindNumber, kindOf, minimumOf, hiddenOf, refreshOf, isDisplayed, isMinimumQuantity};
+ghost use Rattle.orders.specs.Order.{interest, interestOf, allShares, refreshed, settled, isResting};
 
 pub enum Side {
     Buy,
@@ -29,17 +30,19 @@ impl Side {
     }
 }
 
-// Only a minimum quantity order carries a minimum.
+// Only a minimum quantity order carries a minimum, and only a reserve order hidden shares, behind those that it shows, and a refresh size.
+// The two that count as displayed stand together: whether a kind is one of them is one comparison.
 pub enum Kind {
     Displayed,
+    Reserve(Shares, Shares),
     NonDisplayed,
     MinimumQuantity(Shares),
 }
 
 impl Kind {
-    // The kind of a number, with the minimum.
-    pub fn of(number: u32, minimum: u32) -> Kind
-        ensures { λ r. ⌜ r ≡ kindOf number minimum ⌝ }
+    // The kind of a number, with the minimum, the hidden shares and the refresh size.
+    pub fn of(number: u32, minimum: u32, hidden: u32, refresh: u32) -> Kind
+        ensures { λ r. ⌜ r ≡ kindOf number minimum hidden refresh ⌝ }
     {
         if number == 1 {
             return Kind::Displayed;
@@ -47,7 +50,10 @@ impl Kind {
         if number == 2 {
             return Kind::NonDisplayed;
         }
-        Kind::MinimumQuantity(Shares(minimum))
+        if number == 3 {
+            return Kind::MinimumQuantity(Shares(minimum));
+        }
+        Kind::Reserve(Shares(hidden), Shares(refresh))
     }
 
     // The number of a kind.
@@ -58,6 +64,7 @@ impl Kind {
             Kind::Displayed => 1,
             Kind::NonDisplayed => 2,
             Kind::MinimumQuantity(_) => 3,
+            Kind::Reserve(_, _) => 4,
         }
     }
 
@@ -69,9 +76,35 @@ impl Kind {
             Kind::Displayed => Shares(0),
             Kind::NonDisplayed => Shares(0),
             Kind::MinimumQuantity(minimum) => minimum,
+            Kind::Reserve(_, _) => Shares(0),
         }
     }
 
+    // The hidden shares of a reserve order, 0 of every other kind.
+    pub fn hidden(self) -> Shares
+        ensures { λ r. ⌜ r .0 ≡ hiddenOf self ⌝ }
+    {
+        match self {
+            Kind::Displayed => Shares(0),
+            Kind::NonDisplayed => Shares(0),
+            Kind::MinimumQuantity(_) => Shares(0),
+            Kind::Reserve(hidden, _) => hidden,
+        }
+    }
+
+    // The refresh size of a reserve order, 0 of every other kind.
+    pub fn refresh(self) -> Shares
+        ensures { λ r. ⌜ r .0 ≡ refreshOf self ⌝ }
+    {
+        match self {
+            Kind::Displayed => Shares(0),
+            Kind::NonDisplayed => Shares(0),
+            Kind::MinimumQuantity(_) => Shares(0),
+            Kind::Reserve(_, refresh) => refresh,
+        }
+    }
+
+    // Whether an order of the kind counts as displayed.
     pub fn is_displayed(self) -> bool
         ensures { λ r. ⌜ r ≡ isDisplayed self ⌝ }
     {
@@ -79,6 +112,7 @@ impl Kind {
             Kind::Displayed => true,
             Kind::NonDisplayed => false,
             Kind::MinimumQuantity(_) => false,
+            Kind::Reserve(_, _) => true,
         }
     }
 
@@ -89,11 +123,12 @@ impl Kind {
             Kind::MinimumQuantity(_) => true,
             Kind::Displayed => false,
             Kind::NonDisplayed => false,
+            Kind::Reserve(_, _) => false,
         }
     }
 }
 
-// An order number is also the order's time: a lower one is earlier.
+// An order number is also the order's time: a lower one is earlier. The size of a reserve order is the shares that it shows.
 pub struct Order {
     pub side: Side,
     pub kind: Kind,
@@ -103,14 +138,30 @@ pub struct Order {
     pub setter: bool,
 }
 
-impl Order {
-    // All its shares.
-    pub fn shares(self) -> Shares
-        ensures { λ r. ⌜ r .0 ≡ allShares (interestOf self) ⌝ }
-    {
-        self.size
-    }
+// Displayed and non-displayed shares.
+struct Interest {
+    displayed: Shares,
+    others: Shares,
+}
 
+// Where nothing is shown any more, the smaller of the refresh size and the hidden shares is shown, and so many fewer are hidden.
+fn refreshed(refresh: Shares, shown: Shares, hidden: Shares) -> Interest
+    ensures { λ r. ⌜ interest (r .displayed .0) (r .others .0) ≡ refreshed (refresh .0) (interest (shown .0) (hidden .0)) ⌝ }
+{
+    if shown.0 == 0 {
+        let displayed = units::least(refresh, hidden);
+        return Interest {
+            displayed,
+            others: units::difference(hidden, displayed),
+        };
+    }
+    Interest {
+        displayed: shown,
+        others: hidden,
+    }
+}
+
+impl Order {
     // Its displayed shares.
     pub fn displayed(self) -> Shares
         ensures { λ r. ⌜ r .0 ≡ interestOf self .displayed ⌝ }
@@ -120,6 +171,7 @@ impl Order {
             Kind::Displayed => self.size,
             Kind::NonDisplayed => Shares(0),
             Kind::MinimumQuantity(_) => Shares(0),
+            Kind::Reserve(_, _) => self.size,
         }
     }
 
@@ -132,7 +184,24 @@ impl Order {
             Kind::Displayed => Shares(0),
             Kind::NonDisplayed => self.size,
             Kind::MinimumQuantity(_) => self.size,
+            Kind::Reserve(behind, _) => behind,
         }
+    }
+
+    // Whether it has as many shares, displayed and others together.
+    pub fn has(self, shares: Shares) -> bool
+        ensures { λ r. ⌜ r ≡ leb (shares .0) (allShares (interestOf self)) ⌝ }
+    {
+        let beyond = units::difference(shares, self.displayed());
+        let others = self.non_displayed();
+        beyond.0 <= others.0
+    }
+
+    // Whether it has shares.
+    pub fn rests(self) -> bool
+        ensures { λ r. ⌜ r ≡ isResting self ⌝ }
+    {
+        self.has(Shares(1))
     }
 
     // The order of another kind and size, and else the same.
@@ -151,16 +220,8 @@ impl Order {
         }
     }
 
-    // Whether it still rests after it lost displayed and non-displayed shares.
-    pub fn rests_after(self, shown: Shares, hidden: Shares) -> bool
-        ensures { λ r. ⌜ r ≡ isResting (settled (interest (shown .0) (hidden .0)) self) ⌝ }
-    {
-        let displayed = self.displayed();
-        let others = self.non_displayed();
-        (shown.0 < displayed.0) | (hidden.0 < others.0)
-    }
-
-    // The order after it lost displayed and non-displayed shares: a minimum above the new size becomes the new size.
+    // The order after it lost displayed and non-displayed shares: a minimum above the new size becomes the new size, and a reserve order
+    // that shows nothing any more is refreshed.
     pub fn settled(self, shown: Shares, hidden: Shares) -> Order
         ensures { λ r. ⌜ r ≡ settled (interest (shown .0) (hidden .0)) self ⌝ }
     {
@@ -172,6 +233,16 @@ impl Order {
             Kind::MinimumQuantity(minimum) => {
                 let left = units::difference(size, hidden);
                 self.with(Kind::MinimumQuantity(units::least(minimum, left)), left)
+            }
+            Kind::Reserve(behind, refresh) => {
+                let left = refreshed(
+                    refresh,
+                    units::difference(size, shown),
+                    units::difference(behind, hidden),
+                );
+                let displayed = left.displayed;
+                let others = left.others;
+                self.with(Kind::Reserve(others, refresh), displayed)
             }
         }
     }

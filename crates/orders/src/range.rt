@@ -1,6 +1,6 @@
 // The ranges of an order's numbers.
 ghost use mathlib.Core.Path.{_≡_};
-ghost use Rattle.orders.specs.Order.{numberInRange, priceInRange, sharesInRange, minimumInRange};
+ghost use Rattle.orders.specs.Order.{numberInRange, priceInRange, sharesInRange, minimumInRange, reserveInRange};
 
 // Whether an order can have this number.
 pub fn number_in_range(number: u32) -> bool
@@ -31,5 +31,16 @@ pub fn minimum_in_range(kind: u32, size: u32, minimum: u32) -> bool
         units::in_range(1, size, minimum)
     } else {
         minimum == 0
+    }
+}
+
+// Whether hidden shares and a refresh size are in their ranges: 0 to 999,999 and 1 to 999,999 for kind 4, both zero for every other kind.
+pub fn reserve_in_range(kind: u32, hidden: u32, refresh: u32) -> bool
+    ensures { λ r. ⌜ r ≡ reserveInRange kind hidden refresh ⌝ }
+{
+    if kind == 4 {
+        (hidden <= 999_999) & shares_in_range(refresh)
+    } else {
+        (hidden == 0) & (refresh == 0)
     }
 }

@@ -1,25 +1,33 @@
 -- Keys that are kept or not: each is written behind those kept so far, and stays there if it passes a test.
 use Prim.Native.Nat.{ℕ, suc, _+_, _≤_, _<_}
-use mathlib.Core.Path.{_≡_}
+use mathlib.Core.Path.{_≡_, _∙_}
 use mathlib.Core.Bool.{Bool, true, false}
 use mathlib.Core.List.{List, [], _++_}
 use native.Mathlib.Omega.{arith}
 use native.Mathlib.Numerals.{add-one}
 use native.Mathlib.Nat.{add-zero}
-use lib.ListN.{length, getD, take, drop, set, drop-of-length-le}
+use lib.ListN.{length, getD, take, drop, set, length-set, drop-of-length-le}
 use lib.Seq.{take-suc-set, take-set-le, drop-set-lt, drop-cons, append-snoc}
 use Rattle.units.specs.Lists.{consIf, filter, orZero}
+use Rattle.units.proofs.Tests.{pick-least}
 use Rattle.matching.specs.declared.Algorithm.{Algorithm}
 use Rattle.matching.specs.declared.incoming.Incoming.{Incoming}
 use Rattle.book.specs.Sound.{ordersOf, orderAt}
 use Rattle.book.proofs.Access.{order-here}
-use Rattle.parts.specs.Parts.{partKey, mayMeet, keysFrom}
+use Rattle.parts.specs.Parts.{keysOf, keysFrom}
 
 -- the kept keys, with one more if it passes, and what is to come
-kept-more : (b : Bool) (keys : List ℕ) (count x : ℕ) (rest : List ℕ) → count < length keys
+pub kept-more : (b : Bool) (keys : List ℕ) (count x : ℕ) (rest : List ℕ) → count < length keys
     → take (count + orZero b 1) (set keys count x) ++ rest ≡ take count keys ++ consIf b x rest
 kept-more true keys count x rest h = rw (add-one, take-suc-set keys count x h) (append-snoc (take count keys) x rest)
 kept-more false keys count x rest h = rw (add-zero count, take-set-le count keys count x (omega arith))
+
+-- with two more if they pass
+pub kept-two : (b : Bool) (keys : List ℕ) (count x y : ℕ) (rest : List ℕ) → count + 1 < length keys
+    → take (count + orZero b 1 + orZero b 1) (set (set keys count x) (count + orZero b 1) y) ++ rest ≡ take count keys ++ consIf b x (consIf b y rest)
+kept-two b keys count x y rest h =
+    kept-more b (set keys count x) (count + orZero b 1) y rest (omega (arith, pick-least b 1, length-set keys count x))
+    ∙ kept-more b keys count x (consIf b y rest) (omega arith)
 
 -- where the keys themselves are written over: those behind stay as they were
 pub filter-more : (p : ℕ → Bool) (keys : List ℕ) (count k : ℕ) → count ≤ k → k < length keys
@@ -32,16 +40,11 @@ filter-more p keys count k h l =
 
 -- The parts of a book's orders, from record i on.
 module _ (lot : ℕ) (alg : Algorithm) (incoming : Incoming) (s : List ℕ) (i : ℕ) where
-  -- one record more is read, and its part is kept if the incoming order may meet it
-  pub parts-more : i < length (ordersOf s) → (keys : List ℕ) (count key : ℕ) (b : Bool) → count < length keys
-      → b ≡ mayMeet incoming (orderAt s i) → key ≡ partKey lot alg (incoming .taker .side) i (orderAt s i)
-      → take (count + orZero b 1) (set keys count key) ++ keysFrom lot alg incoming (i + 1) (drop (i + 1) (ordersOf s))
-      ≡ take count keys ++ keysFrom lot alg incoming i (drop i (ordersOf s))
+  -- one record more is read: its parts stand in front of those of the others
+  pub parts-more : i < length (ordersOf s)
+      → keysFrom lot alg incoming i (drop i (ordersOf s)) ≡ keysOf lot alg incoming i (orderAt s i) (keysFrom lot alg incoming (i + 1) (drop (i + 1) (ordersOf s)))
   unfolding keysFrom
-  parts-more h keys count key b l p q =
-      let part = partKey lot alg (incoming .taker .side) i (orderAt s i) in
-      let rest = keysFrom lot alg incoming (suc i) (drop (suc i) (ordersOf s)) in
-      rw (p, q, add-one i, order-here s i h) (kept-more (mayMeet incoming (orderAt s i)) keys count part rest l)
+  parts-more h = rw (add-one i, order-here s i h)
 
   -- every record was read
   pub parts-done : length (ordersOf s) ≤ i → keysFrom lot alg incoming i (drop i (ordersOf s)) ≡ []

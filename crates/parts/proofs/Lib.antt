@@ -1,5 +1,6 @@
 pub mod Keys
 pub mod Paragraphs
+pub mod Seeing
 pub mod Table
 pub mod Reading
 pub mod Keeping

@@ -10,14 +10,17 @@ use Rattle.units.specs.Lists.{all as allOf, sameNumbers}
 use Rattle.orders.specs.declared.order.Side.{Side}
 use Rattle.orders.specs.declared.order.Side.the-variants.{Buy, Sell}
 use Rattle.orders.specs.declared.order.Kind.{Kind}
-use Rattle.orders.specs.declared.order.Kind.the-variants.{Displayed, NonDisplayed, MinimumQuantity}
+use Rattle.orders.specs.declared.order.Kind.the-variants.{Displayed, NonDisplayed, MinimumQuantity, Reserve}
 use Rattle.orders.specs.declared.order.Order.{Order}
+use Rattle.orders.specs.Order.{shown, hidden, sharesOf, onlyOf}
 use Rattle.record.specs.declared.execution.Execution.{Execution}
 use Rattle.matching.specs.declared.Algorithm.the-variants.{PriceTime, ProRata, PriceSetter}
 use Rattle.matching.specs.declared.incoming.Incoming.{Incoming}
 use Rattle.parts.specs.Key.{keyOf, rankIn, groupIn, paragraphIn, placeIn, sharesIn, withShares}
 use Rattle.parts.specs.Execution.{executionIn, executionOf}
-use Rattle.parts.specs.Parts.{rankOn, proRataParagraph, paragraphFor, partKey, mayMeet, keysFrom}
+use Rattle.parts.specs.Parts.{rankOn, proRataParagraph, paragraphFor, partKey, mayMeet, offers, keysOf, keysFrom}
+use Rattle.parts.specs.Table.{visibilityOf}
+use Rattle.parts.specs.Visible.{lastShown, visibleBy, visibilityIn}
 use Rattle.parts.specs.Narrowed.{minimumParagraph, ofRank, freeShares, Narrowed, all, best}
 
 keys : List Bool
@@ -68,6 +71,10 @@ executions-worked = refl
 least : ℕ → Kind
 least m = MinimumQuantity (record { 0 = m })
 
+-- a reserve order that hides so many shares
+hides : ℕ → Kind
+hides n = Reserve (record { 0 = n }) (record { 0 = 100 })
+
 order : Side → Kind → ℕ → ℕ → Order
 order side kind price size = record {
   side = side;
@@ -88,28 +95,51 @@ paragraphs =
     eqb (rankOn Buy 100100) 100100 ∷
     eqb (rankOn Sell 100100) 4294867195 ∷
     -- under pro rata: displayed shares of a lot and below one, non-displayed ones, and those with a minimum
-    eqb (proRataParagraph 100 Displayed 100) 2 ∷
-    eqb (proRataParagraph 100 Displayed 99) 3 ∷
-    eqb (proRataParagraph 100 NonDisplayed 100) 4 ∷
-    eqb (proRataParagraph 100 NonDisplayed 99) 6 ∷
-    eqb (proRataParagraph 100 (least 50) 100) 5 ∷
-    eqb (proRataParagraph 100 (least 50) 99) 5 ∷
-    eqb (proRataParagraph 7 Displayed 7) 2 ∷
+    eqb (proRataParagraph 100 shown false 100) 2 ∷
+    eqb (proRataParagraph 100 shown false 99) 3 ∷
+    eqb (proRataParagraph 100 hidden false 100) 4 ∷
+    eqb (proRataParagraph 100 hidden false 99) 6 ∷
+    eqb (proRataParagraph 100 hidden true 100) 5 ∷
+    eqb (proRataParagraph 100 hidden true 99) 5 ∷
+    eqb (proRataParagraph 7 shown false 7) 2 ∷
     -- under price/time: displayed shares, and all others
-    eqb (paragraphFor 100 PriceTime Displayed 99) 2 ∷
-    eqb (paragraphFor 100 PriceTime NonDisplayed 100) 3 ∷
-    eqb (paragraphFor 100 PriceTime (least 50) 100) 3 ∷
+    eqb (paragraphFor 100 PriceTime shown false 99) 2 ∷
+    eqb (paragraphFor 100 PriceTime hidden false 100) 3 ∷
+    eqb (paragraphFor 100 PriceTime hidden true 100) 3 ∷
     -- under the other two as under pro rata
-    eqb (paragraphFor 100 ProRata Displayed 99) 3 ∷
-    eqb (paragraphFor 100 ProRata NonDisplayed 99) 6 ∷
-    eqb (paragraphFor 100 PriceSetter Displayed 99) 3 ∷
-    eqb (paragraphFor 100 PriceSetter (least 50) 99) 5 ∷ []
+    eqb (paragraphFor 100 ProRata shown false 99) 3 ∷
+    eqb (paragraphFor 100 ProRata hidden false 99) 6 ∷
+    eqb (paragraphFor 100 PriceSetter shown false 99) 3 ∷
+    eqb (paragraphFor 100 PriceSetter hidden true 99) 5 ∷ []
 
 paragraphs-worked : allOf (λ b. b) paragraphs ≡ true
-unfolding paragraphs least
+unfolding paragraphs
 paragraphs-worked = refl
 
--- a displayed sell, a non-displayed one below a lot at the limit, a buy, a sell above the limit, a minimum that is just met, and one that isn't
+-- displayed shares stand in paragraph 2 under price/time, and in 2 and 3 under the other two
+visible : List Bool
+visible =
+    eqb (lastShown PriceTime) 2 ∷
+    eqb (lastShown ProRata) 3 ∷
+    eqb (lastShown PriceSetter) 3 ∷
+    eqb (sharesOf shown (onlyOf (visibleBy PriceTime 2) 7)) 7 ∷
+    eqb (sharesOf hidden (onlyOf (visibleBy PriceTime 3) 7)) 7 ∷
+    eqb (sharesOf shown (onlyOf (visibleBy ProRata 3) 7)) 7 ∷
+    eqb (sharesOf hidden (onlyOf (visibleBy PriceSetter 4) 7)) 7 ∷
+    eqb (sharesOf hidden (onlyOf (visibilityIn ProRata (keyOf 3 4 300 999999)) 7)) 7 ∷
+    eqb (sharesOf shown (onlyOf (visibilityIn ProRata (keyOf 3 3 300 999999)) 7)) 7 ∷
+    -- the size of an order of kind 1 or 4 is displayed
+    eqb (sharesOf shown (onlyOf (visibilityOf Displayed) 7)) 7 ∷
+    eqb (sharesOf shown (onlyOf (visibilityOf (hides 80)) 7)) 7 ∷
+    eqb (sharesOf hidden (onlyOf (visibilityOf NonDisplayed) 7)) 7 ∷
+    eqb (sharesOf hidden (onlyOf (visibilityOf (least 7)) 7)) 7 ∷ []
+
+visible-worked : allOf (λ b. b) visible ≡ true
+unfolding visible hides least
+visible-worked = refl
+
+-- a displayed sell, a non-displayed one below a lot at the limit, a buy, a sell above the limit, a minimum that is just met, one that isn't,
+-- and two reserve orders, one of which hides nothing
 orders : List Order
 orders =
     order Sell Displayed 100000 250 ∷
@@ -117,13 +147,23 @@ orders =
     order Buy Displayed 100000 100 ∷
     order Sell Displayed 100101 100 ∷
     order Sell (least 300) 100050 400 ∷
-    order Sell (least 301) 100050 400 ∷ []
+    order Sell (least 301) 100050 400 ∷
+    order Sell (hides 80) 100050 120 ∷
+    order Sell (hides 0) 100000 30 ∷ []
 
 parts : List Bool
 parts =
-    eqb (partKey 100 ProRata Buy 5 (order Sell NonDisplayed 100100 50)) (keyOf 100100 6 5 50) ∷
-    eqb (partKey 50 ProRata Buy 5 (order Sell NonDisplayed 100100 50)) (keyOf 100100 4 5 50) ∷
-    eqb (partKey 100 PriceTime Sell 5 (order Buy NonDisplayed 100100 50)) (keyOf 4294867195 3 5 50) ∷
+    eqb (partKey 100 ProRata Buy hidden 5 (order Sell NonDisplayed 100100 50)) (keyOf 100100 6 5 50) ∷
+    eqb (partKey 50 ProRata Buy hidden 5 (order Sell NonDisplayed 100100 50)) (keyOf 100100 4 5 50) ∷
+    eqb (partKey 100 PriceTime Sell hidden 5 (order Buy NonDisplayed 100100 50)) (keyOf 4294867195 3 5 50) ∷
+    -- a reserve order's two, each of its own size
+    eqb (partKey 100 ProRata Buy shown 5 (order Sell (hides 80) 100100 120)) (keyOf 100100 2 5 120) ∷
+    eqb (partKey 100 ProRata Buy hidden 5 (order Sell (hides 80) 100100 120)) (keyOf 100100 6 5 80) ∷
+    offers (incoming Buy 100100) shown (order Sell (hides 80) 100100 120) ∷
+    offers (incoming Buy 100100) hidden (order Sell (hides 80) 100100 120) ∷
+    not (offers (incoming Buy 100100) hidden (order Sell (hides 0) 100100 120)) ∷
+    not (offers (incoming Buy 100100) shown (order Sell NonDisplayed 100100 120)) ∷
+    not (offers (incoming Buy 100099) shown (order Sell (hides 80) 100100 120)) ∷
     -- whom a sell may meet: the other side, at or above the limit, with a minimum of 300 at most
     mayMeet (incoming Sell 100100) (order Buy Displayed 100100 50) ∷
     mayMeet (incoming Sell 100100) (order Buy (least 300) 100200 400) ∷
@@ -131,13 +171,14 @@ parts =
     not (mayMeet (incoming Sell 100100) (order Buy Displayed 100099 50)) ∷
     not (mayMeet (incoming Sell 100100) (order Buy (least 301) 100200 400)) ∷
     -- the parts that a buy may meet, each with the place of its record
-    sameNumbers (keysFrom 100 ProRata (incoming Buy 100100) 0 orders) (keyOf 100000 2 0 250 ∷ keyOf 100100 6 1 50 ∷ keyOf 100050 5 4 400 ∷ []) ∷
-    sameNumbers (keysFrom 100 PriceTime (incoming Buy 100000) 7 orders) (keyOf 100000 2 7 250 ∷ []) ∷
+    sameNumbers (keysFrom 100 ProRata (incoming Buy 100100) 0 orders)
+    (keyOf 100000 2 0 250 ∷ keyOf 100100 6 1 50 ∷ keyOf 100050 5 4 400 ∷ keyOf 100050 2 6 120 ∷ keyOf 100050 6 6 80 ∷ keyOf 100000 3 7 30 ∷ []) ∷
+    sameNumbers (keysFrom 100 PriceTime (incoming Buy 100000) 7 orders) (keyOf 100000 2 7 250 ∷ keyOf 100000 2 14 30 ∷ []) ∷
     sameNumbers (keysFrom 100 PriceTime (incoming Sell 1) 0 orders) (keyOf 4294867295 2 2 100 ∷ []) ∷
     sameNumbers (keysFrom 100 PriceTime (incoming Buy 100100) 0 []) [] ∷ []
 
 parts-worked : allOf (λ b. b) parts ≡ true
-unfolding parts orders order least incoming keysFrom
+unfolding parts orders order least hides incoming keysOf keysFrom
 parts-worked = refl
 
 free : List Bool

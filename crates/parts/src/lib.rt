@@ -2,6 +2,7 @@
 // A part is what of an order stands in one paragraph's group.
 mod best;
 pub mod key;
+pub mod visible;
 
 use book::records;
 use book::records::RECORD_BYTES;
@@ -12,18 +13,19 @@ use record::order_record::Numbers;
 use units::Shares;
 ghost use mathlib.Core.Path.{_≡_};
 ghost use mathlib.Core.Bool.{true};
+ghost use mathlib.Core.List.{List, _++_};
 ghost use Prim.Native.Nat.{ℕ, _+_, _*_, _≤_, _<_};
-ghost use lib.Dec.{ltb};
 ghost use lib.ListN.{length, getD, take};
-ghost use Rattle.units.specs.Lists.{orZero};
 ghost use Rattle.orders.specs.declared.order.Kind.{Kind};
 ghost use Rattle.orders.specs.declared.order.Order.{Order};
-ghost use Rattle.orders.specs.Order.{kindNumber};
+ghost use Rattle.orders.specs.Order.{kindNumber, isMinimumQuantity};
 ghost use Rattle.record.specs.Record.{numbersOf};
 ghost use Rattle.record.specs.Names.{namedNumbers};
 ghost use Rattle.record.proofs.Orders.{OrderSound};
 ghost use Rattle.book.specs.Sound.{sound, ordersOf};
-ghost use Rattle.parts.specs.Parts.{rankOn, paragraphFor, partKey, mayMeet, keysFrom};
+ghost use Rattle.parts.specs.Key.{keyOf};
+ghost use Rattle.parts.specs.Parts.{rankOn, paragraphFor, mayMeet, keysOf, keysFrom};
+ghost use Rattle.parts.specs.Table.{visibilityOf, Tells};
 ghost use Rattle.parts.specs.Arranged.{Arranged};
 
 // The rank of a price for a taker of this side: the better the price, the lower.
@@ -36,35 +38,38 @@ fn rank_on(side: Side, price: u32) -> u32
     }
 }
 
-// The numbers of the paragraphs in whose groups orders stand: at twice the number of the kind, and one more for shares below a lot.
-fn paragraph_numbers(algorithm: Algorithm) -> [u64; 8]
-    ensures { λ r. ⌜ ((k : ℕ) → getD r k 0 < 8)
-        × ((n l : ℕ) (kind : Kind) → getD r (2 * kindNumber kind + orZero (ltb n l) 1) 0 ≡ paragraphFor l algorithm kind n) ⌝ }
+// The numbers of the paragraphs in whose groups orders stand: at twice the number of the kind, and one more for a size below a lot. The
+// shown shares of a reserve order stand as those of a displayed order, and its hidden ones as those of a non-displayed one.
+fn paragraph_numbers(algorithm: Algorithm) -> [u64; 10]
+    ensures { λ r. ⌜ ((k : ℕ) → getD r k 0 < 8) × Tells algorithm r ⌝ }
 {
     match algorithm {
-        Algorithm::PriceTime => [2, 2, 2, 2, 3, 3, 3, 3],
-        Algorithm::ProRata => [2, 2, 2, 3, 4, 6, 5, 5],
-        Algorithm::PriceSetter => [2, 2, 2, 3, 4, 6, 5, 5],
+        Algorithm::PriceTime => [2, 2, 2, 2, 3, 3, 3, 3, 2, 2],
+        Algorithm::ProRata => [2, 2, 2, 3, 4, 6, 5, 5, 2, 3],
+        Algorithm::PriceSetter => [2, 2, 2, 3, 4, 6, 5, 5, 2, 3],
     }
 }
 
-// The part of an order by the numbers of its record.
-fn part_of(numbers: Numbers, place: usize, side: Side, paragraphs: &[u64], lot: Shares) -> u64
-    requires { ⌜ (place < 512)
-        × (length (now paragraphs) ≡ 8)
-        × ((k : ℕ) → getD (now paragraphs) k 0 < 8)
-        × ((o : Order) × OrderSound o × (numbers ≡ namedNumbers (numbersOf o))) ⌝ }
-    ensures { λ r. ⌜ ((o : Order) (alg : Algorithm) → numbers ≡ namedNumbers (numbersOf o)
-        → ((n l : ℕ) (kind : Kind) → getD (now (paragraphs .entry)) (2 * kindNumber kind + orZero (ltb n l) 1) 0 ≡ paragraphFor l alg kind n)
-        → r ≡ partKey (lot .0) alg side place o) ⌝ }
+// The part of an order of this kind's number and this price whose size is so many shares.
+fn part_of(
+    kind: u32,
+    shares: Shares,
+    price: u32,
+    place: usize,
+    side: Side,
+    paragraphs: &[u64],
+    lot: Shares,
+) -> u64
+    requires { ⌜ (kind ≤ 4)
+        × (shares .0 ≤ 999999)
+        × (place < 512)
+        × (length (now paragraphs) ≡ 10)
+        × ((k : ℕ) → getD (now paragraphs) k 0 < 8) ⌝ }
+    ensures { λ r. ⌜ ((k : Kind) (alg : Algorithm) → kind ≡ kindNumber k → Tells alg (now (paragraphs .entry))
+        → r ≡ keyOf (rankOn side price) (paragraphFor (lot .0) alg (visibilityOf k) (isMinimumQuantity k) (shares .0)) place (shares .0)) ⌝ }
 {
-    let column = 2 * (numbers.kind as usize) + (units::one_if(numbers.size < lot.0) as usize);
-    key::key_of(
-        rank_on(side, numbers.price),
-        paragraphs[column],
-        place,
-        Shares(numbers.size),
-    )
+    let column = 2 * (kind as usize) + (units::one_if(shares.0 < lot.0) as usize);
+    key::key_of(rank_on(side, price), paragraphs[column], place, shares)
 }
 
 // Whether an incoming order of this side may trade with the order of a record's numbers, and has the shares for its minimum.
@@ -81,6 +86,56 @@ fn may_meet(numbers: Numbers, incoming: Incoming) -> bool
         & (numbers.minimum <= size.0)
 }
 
+// The parts of an order, by the numbers of its record, go behind the first keys if the incoming order may trade with it. Gives the number
+// of keys that there are then.
+fn write_parts(
+    numbers: Numbers,
+    place: usize,
+    incoming: Incoming,
+    paragraphs: &[u64],
+    lot: Shares,
+    keys: &mut [u64],
+    count: usize,
+) -> usize
+    requires { ⌜ (place < 512)
+        × (length (now paragraphs) ≡ 10)
+        × ((k : ℕ) → getD (now paragraphs) k 0 < 8)
+        × ((o : Order) × OrderSound o × (numbers ≡ namedNumbers (numbersOf o)))
+        × (count + 2 ≤ length (now keys)) ⌝ }
+    ensures { λ r. ⌜ (length (now (keys .exit)) ≡ length (now (keys .entry)))
+        × (r ≤ count + 2)
+        × ((o : Order) (alg : Algorithm) (others : List ℕ) → OrderSound o → numbers ≡ namedNumbers (numbersOf o) → Tells alg (now (paragraphs .entry))
+        → take r (now (keys .exit)) ++ others ≡ take count (now (keys .entry)) ++ keysOf (lot .0) alg incoming place o others) ⌝ }
+{
+    let taker = incoming.taker;
+    let side = taker.side;
+    let price = numbers.price;
+    let met = units::one_if(may_meet(numbers, incoming)) as usize;
+    keys[count] = part_of(
+        numbers.kind,
+        Shares(numbers.size),
+        price,
+        place,
+        side,
+        paragraphs,
+        lot,
+    );
+    let next = count + met;
+    if numbers.hidden == 0 {
+        return next;
+    }
+    keys[next] = part_of(
+        2,
+        Shares(numbers.hidden),
+        price,
+        place,
+        side,
+        paragraphs,
+        lot,
+    );
+    next + met
+}
+
 // The parts of those that the incoming order may trade with, in the order of their records. Gives their number.
 fn collect(
     book: &[u8],
@@ -90,18 +145,15 @@ fn collect(
     lot: Shares,
     keys: &mut [u64],
 ) -> usize
-    requires { ⌜ (sound (now book) ≡ true) × (n ≡ length (ordersOf (now book))) × (n ≤ length (now keys)) ⌝ }
-    ensures { λ r. ⌜ (r ≤ n) × (take r (now (keys .exit)) ≡ keysFrom (lot .0) algorithm incoming 0 (ordersOf (now (book .entry)))) ⌝ }
+    requires { ⌜ (sound (now book) ≡ true) × (n ≡ length (ordersOf (now book))) × (2 * n ≤ length (now keys)) ⌝ }
+    ensures { λ r. ⌜ (r ≤ 2 * n) × (take r (now (keys .exit)) ≡ keysFrom (lot .0) algorithm incoming 0 (ordersOf (now (book .entry)))) ⌝ }
 {
-    let taker = incoming.taker;
-    let side = taker.side;
     let paragraphs = paragraph_numbers(algorithm);
     let mut count = 0;
     let mut i = 0;
     while i < n {
         let numbers = records::numbers_at(book, RECORD_BYTES * i);
-        keys[count] = part_of(numbers, i, side, &paragraphs, lot);
-        count += units::one_if(may_meet(numbers, incoming)) as usize;
+        count = write_parts(numbers, i, incoming, &paragraphs, lot, keys, count);
         i += 1;
     }
     count
@@ -120,9 +172,9 @@ pub fn arrange(
 ) -> usize
     requires { ⌜ (sound (now book) ≡ true)
         × (n ≡ length (ordersOf (now book)))
-        × (n ≤ length (now keys))
-        × (n ≤ length (now spare)) ⌝ }
-    ensures { λ r. ⌜ (r ≤ n) × Arranged (lot .0) algorithm incoming (ordersOf (now (book .entry))) (take r (now (keys .exit))) ⌝ }
+        × (2 * n ≤ length (now keys))
+        × (2 * n ≤ length (now spare)) ⌝ }
+    ensures { λ r. ⌜ (r ≤ 2 * n) × Arranged (lot .0) algorithm incoming (ordersOf (now (book .entry))) (take r (now (keys .exit))) ⌝ }
 {
     let all = collect(book, n, incoming, algorithm, lot, keys);
     if ordering::rises(&keys[..all]) {

@@ -5,17 +5,18 @@ use mathlib.Core.Bool.{Bool, true, false, _&&_, _||_, false≢true}
 use mathlib.Core.List.{List}
 use native.Mathlib.Omega.{arith}
 use lib.ListN.{length}
-use lib.Dec.{eqb}
+use lib.Dec.{leb, eqb}
+use borrow.Author.Tests.{leb-true, le-leb}
 use Rattle.units.specs.Lists.{inRange, orZero, isZero}
-use Rattle.units.proofs.Tests.{pick-least}
+use Rattle.units.proofs.Tests.{and-true, true-and, pick-least}
 use Rattle.units.proofs.Facts.{range-true, true-range}
 use Rattle.orders.specs.declared.order.Side.{Side}
 use Rattle.orders.specs.declared.order.Side.the-variants.{Buy, Sell}
 use Rattle.orders.specs.declared.order.Kind.{Kind}
-use Rattle.orders.specs.declared.order.Kind.the-variants.{Displayed, NonDisplayed, MinimumQuantity}
+use Rattle.orders.specs.declared.order.Kind.the-variants.{Displayed, NonDisplayed, MinimumQuantity, Reserve}
 use Rattle.orders.specs.declared.order.Order.{Order}
-use Rattle.orders.specs.Order.{sideNumber, kindNumber, minimumOf, isDisplayed, isMinimumQuantity, priceOf, sizeOf}
-use Rattle.orders.specs.Order.{minimumInRange}
+use Rattle.orders.specs.Order.{sideNumber, kindNumber, minimumOf, hiddenOf, refreshOf, isDisplayed, isMinimumQuantity, isReserve, priceOf, sizeOf}
+use Rattle.orders.specs.Order.{minimumInRange, reserveInRange}
 use Rattle.record.specs.Record.{orderForm, numbersOf, orderOf, numbersSound}
 use Rattle.record.proofs.Numbers.{Fits}
 use Rattle.record.proofs.Rows.{numbers-order, passed, all-passed}
@@ -25,7 +26,7 @@ abbrev pub OrderSound : Order → Type 0
 OrderSound o = numbersSound (numbersOf o) ≡ true
 
 -- the order of a sound row of numbers is sound
-pub row-sound : (ns : List ℕ) → numbersSound ns ≡ true → length ns ≡ 10 → OrderSound (orderOf ns)
+pub row-sound : (ns : List ℕ) → numbersSound ns ≡ true → length ns ≡ 12 → OrderSound (orderOf ns)
 row-sound ns e l = ap numbersSound (numbers-order ns e l) ∙ e
 
 -- what a sound order has, and all that it takes
@@ -39,41 +40,70 @@ pub record OrderFacts (o : Order) : Type 0 where
   pub minimum-least : isMinimumQuantity (o .kind) ≡ true → 1 ≤ minimumOf (o .kind)
   pub minimum-most : minimumOf (o .kind) ≤ sizeOf o
   pub marked : o .setter ≡ true → isDisplayed (o .kind) ≡ true
+  pub hidden-most : hiddenOf (o .kind) ≤ 999999
+  pub refresh-least : isReserve (o .kind) ≡ true → 1 ≤ refreshOf (o .kind)
+  pub refresh-most : refreshOf (o .kind) ≤ 999999
 
 minimum-facts : (k : Kind) (size : ℕ) → minimumInRange (kindNumber k) size (minimumOf k) ≡ true
     → (isMinimumQuantity k ≡ true → 1 ≤ minimumOf k) × (minimumOf k ≤ size)
 minimum-facts Displayed size e = ((λ f. absurd (false≢true f)), omega arith)
 minimum-facts NonDisplayed size e = ((λ f. absurd (false≢true f)), omega arith)
 minimum-facts (MinimumQuantity m) size e = let r = range-true 1 size (m .0) e in ((λ f. r .0), r .1)
+minimum-facts (Reserve h r) size e = ((λ f. absurd (false≢true f)), omega arith)
 
 facts-minimum : (k : Kind) (size : ℕ) → (isMinimumQuantity k ≡ true → 1 ≤ minimumOf k) → minimumOf k ≤ size
     → minimumInRange (kindNumber k) size (minimumOf k) ≡ true
 facts-minimum Displayed size h l = refl
 facts-minimum NonDisplayed size h l = refl
 facts-minimum (MinimumQuantity m) size h l = true-range 1 size (m .0) (h refl) l
+facts-minimum (Reserve b r) size h l = refl
 
-mark-facts : (b : Bool) (k : Kind) → (isZero (orZero b 1) || (eqb (orZero b 1) 1 && eqb (kindNumber k) 1)) ≡ true → b ≡ true
+mark-facts : (b : Bool) (k : Kind) → (isZero (orZero b 1) || (eqb (orZero b 1) 1 && (eqb (kindNumber k) 1 || eqb (kindNumber k) 4))) ≡ true → b ≡ true
     → isDisplayed k ≡ true
 mark-facts true Displayed e f = refl
 mark-facts true NonDisplayed e f = absurd (false≢true e)
 mark-facts true (MinimumQuantity m) e f = absurd (false≢true e)
+mark-facts true (Reserve h r) e f = refl
 mark-facts false k e f = absurd (false≢true f)
 
 facts-mark : (b : Bool) (k : Kind) → (b ≡ true → isDisplayed k ≡ true)
-    → (isZero (orZero b 1) || (eqb (orZero b 1) 1 && eqb (kindNumber k) 1)) ≡ true
+    → (isZero (orZero b 1) || (eqb (orZero b 1) 1 && (eqb (kindNumber k) 1 || eqb (kindNumber k) 4))) ≡ true
 facts-mark true Displayed h = refl
 facts-mark true NonDisplayed h = absurd (false≢true (h refl))
 facts-mark true (MinimumQuantity m) h = absurd (false≢true (h refl))
+facts-mark true (Reserve b r) h = refl
 facts-mark false k h = refl
 
 side-range : (s : Side) → inRange 1 2 (sideNumber s) ≡ true
 side-range Buy = refl
 side-range Sell = refl
 
-kind-range : (k : Kind) → inRange 1 3 (kindNumber k) ≡ true
+kind-range : (k : Kind) → inRange 1 4 (kindNumber k) ≡ true
 kind-range Displayed = refl
 kind-range NonDisplayed = refl
 kind-range (MinimumQuantity m) = refl
+kind-range (Reserve h r) = refl
+
+-- what a kind has of hidden shares and a refresh size
+record ReserveFacts (k : Kind) : Type 0 where
+  most : hiddenOf k ≤ 999999
+  refresh : isReserve k ≡ true → 1 ≤ refreshOf k
+  refresh-most : refreshOf k ≤ 999999
+
+reserve-facts : (k : Kind) → reserveInRange (kindNumber k) (hiddenOf k) (refreshOf k) ≡ true → ReserveFacts k
+reserve-facts Displayed e = record { most = omega arith; refresh = λ f. absurd (false≢true f); refresh-most = omega arith }
+reserve-facts NonDisplayed e = record { most = omega arith; refresh = λ f. absurd (false≢true f); refresh-most = omega arith }
+reserve-facts (MinimumQuantity m) e = record { most = omega arith; refresh = λ f. absurd (false≢true f); refresh-most = omega arith }
+reserve-facts (Reserve h r) e =
+    let a = and-true (leb (h .0) 999999) (inRange 1 999999 (r .0)) e in
+    let b = range-true 1 999999 (r .0) (a .1) in
+    record { most = leb-true (h .0) 999999 (a .0); refresh = λ f. b .0; refresh-most = b .1 }
+
+facts-reserve : (k : Kind) → ReserveFacts k → reserveInRange (kindNumber k) (hiddenOf k) (refreshOf k) ≡ true
+facts-reserve Displayed f = refl
+facts-reserve NonDisplayed f = refl
+facts-reserve (MinimumQuantity m) f = refl
+facts-reserve (Reserve h r) f = true-and (le-leb (h .0) 999999 (f .most)) (true-range 1 999999 (r .0) (f .refresh refl) (f .refresh-most))
 
 module _ (o : Order) where
   -- a sound order has each of the facts
@@ -85,6 +115,7 @@ module _ (o : Order) where
       let p = range-true 1 2000000000 (priceOf o) (t .1 .0) in
       let z = range-true 1 999999 (sizeOf o) (t .1 .1 .0) in
       let m = minimum-facts (o .kind) (sizeOf o) (t .1 .1 .1 .0) in
+      let r = reserve-facts (o .kind) (t .1 .1 .1 .1 .1 .1 .1 .1 .0) in
       record {
         number-least = n .0;
         number-most = n .1;
@@ -95,6 +126,9 @@ module _ (o : Order) where
         minimum-least = m .0;
         minimum-most = m .1;
         marked = mark-facts (o .setter) (o .kind) (t .1 .1 .1 .1 .0);
+        hidden-most = r .most;
+        refresh-least = r .refresh;
+        refresh-most = r .refresh-most;
       }
 
   -- an order with each of the facts is sound
@@ -112,6 +146,7 @@ module _ (o : Order) where
       refl
       refl
       refl
+      (facts-reserve (o .kind) record { most = h .hidden-most; refresh = h .refresh-least; refresh-most = h .refresh-most })
 
   -- a sound order's numbers fit the record of an order
   pub order-fits : OrderSound o → Fits (orderForm .widths) (numbersOf o)
@@ -119,6 +154,6 @@ module _ (o : Order) where
   order-fits e =
       let h = order-facts e in
       let s = range-true 1 2 (sideNumber (o .side)) (side-range (o .side)) in
-      let k = range-true 1 3 (kindNumber (o .kind)) (kind-range (o .kind)) in
+      let k = range-true 1 4 (kindNumber (o .kind)) (kind-range (o .kind)) in
       let m = pick-least (o .setter) 1 in
-      (omega arith, (omega arith, (omega arith, (omega arith, (omega arith, (omega arith, (omega arith, (omega arith, (omega arith, (omega arith, tt))))))))))
+      (omega arith, (omega arith, (omega arith, (omega arith, (omega arith, (omega arith, (omega arith, (omega arith, (omega arith, (omega arith, (omega arith, (omega arith, tt))))))))))))

@@ -4,8 +4,8 @@ use mathlib.Core.Path.{_≡_, refl, sym, ap, _∙_}
 use mathlib.Core.Bool.{_&&_}
 use mathlib.Core.List.{List, [], _∷_}
 use native.Mathlib.Omega.{arith}
-use lib.ListN.{length, getD, take, drop, length-drop}
-use lib.Seq.{drop-drop, take-add, take-all, take-nil}
+use lib.ListN.{length, getD, take, drop}
+use lib.Seq.{drop-drop, take-add, take-nil}
 use borrow.Author.Tests.{ne-eqb}
 use Rattle.units.specs.Lists.{all, sum, isZero}
 use Rattle.units.proofs.Members.{all-append}
@@ -52,12 +52,9 @@ split-at : (ws : List ℕ) (at : ℕ) (s : List ℕ) → split ws (drop at s) �
 split-at [] at s = refl
 split-at (w ∷ ws) at s = ap (λ l. fromBytes (take w (drop at s)) ∷ l) (ap (split ws) (drop-drop w at s) ∙ split-at ws (at + w) s)
 
--- numbers that reach to the end are zero where every byte from their place on is
-pub rest-zero : (ws : List ℕ) (at : ℕ) (s : List ℕ) → length s ≡ at + sum ws → all isZero (numbersAt ws at s) ≡ all isZero (drop at s)
-rest-zero ws at s h =
-    ap (all isZero) (sym (split-at ws at s))
-    ∙ split-zero ws (drop at s)
-    ∙ ap (all isZero) (take-all (sum ws) (drop at s) (omega (arith, length-drop at s)))
+-- numbers one behind the other are zero where each of their bytes is
+pub row-zero : (ws : List ℕ) (at : ℕ) (s : List ℕ) → all isZero (numbersAt ws at s) ≡ all isZero (take (sum ws) (drop at s))
+row-zero ws at s = ap (all isZero) (sym (split-at ws at s)) ∙ split-zero ws (drop at s)
 
 -- the numbers of a record stand behind its mark
 pub decode-at : (f : Form) (s : List ℕ) → decode f s ≡ numbersAt (f .widths) (length (f .mark)) s

@@ -30,12 +30,12 @@ module _ (f : Form) where
   record-chain r = and-chain (hasMark f r) (inRange 1 2 (getD (decode f r) 0 0)) (tests (decode f r))
 
   -- a sound record is that of its order
-  pub encode-order : length (f .widths) ≡ 10 → (r : List ℕ) → recordSound f r ≡ true → AreBytes r → length r ≡ formBytes f
+  pub encode-order : length (f .widths) ≡ 12 → (r : List ℕ) → recordSound f r ≡ true → AreBytes r → length r ≡ formBytes f
       → encodeOrder f (decodeOrder f r) ≡ r
   encode-order w r e b l =
       let a = and-true (hasMark f r) (numbersSound (decode f r)) e in
       ap (encode f) (numbers-order (decode f r) (a .1) (length-decode f r ∙ w)) ∙ encode-decode f r (a .0) b l
 
   -- the order of a sound record is sound
-  pub order-sound : length (f .widths) ≡ 10 → (r : List ℕ) → recordSound f r ≡ true → OrderSound (decodeOrder f r)
+  pub order-sound : length (f .widths) ≡ 12 → (r : List ℕ) → recordSound f r ≡ true → OrderSound (decodeOrder f r)
   order-sound w r e = row-sound (decode f r) (and-true (hasMark f r) (numbersSound (decode f r)) e .1) (length-decode f r ∙ w)

@@ -10,14 +10,15 @@ use lib.Dec.{eqb}
 use borrow.Author.Tests.{eqb-true}
 use Rattle.units.specs.Lists.{inRange, orZero, isZero}
 use Rattle.units.proofs.Members.{Every}
+use Rattle.units.proofs.Tests.{and-true}
 use Rattle.units.proofs.Facts.{Given, chain-true, true-chain, range-true}
 use Rattle.orders.specs.declared.order.Side.{Side}
 use Rattle.orders.specs.declared.order.Side.the-variants.{Buy, Sell}
 use Rattle.orders.specs.declared.order.Kind.{Kind}
-use Rattle.orders.specs.declared.order.Kind.the-variants.{Displayed, NonDisplayed, MinimumQuantity}
+use Rattle.orders.specs.declared.order.Kind.the-variants.{Displayed, NonDisplayed, MinimumQuantity, Reserve}
 use Rattle.orders.specs.declared.order.Order.{Order}
-use Rattle.orders.specs.Order.{sideNumber, sideOf, kindNumber, kindOf, minimumOf}
-use Rattle.orders.specs.Order.{numberInRange, priceInRange, sharesInRange, minimumInRange}
+use Rattle.orders.specs.Order.{sideNumber, sideOf, kindNumber, kindOf, minimumOf, hiddenOf, refreshOf}
+use Rattle.orders.specs.Order.{numberInRange, priceInRange, sharesInRange, minimumInRange, reserveInRange}
 use Rattle.record.specs.Record.{numbersOf, orderOf, numbersSound}
 
 -- a side and a kind are read back from their numbers
@@ -30,10 +31,11 @@ pub side-byte : (s : Side) → sideNumber s % 256 ≡ sideNumber s
 side-byte Buy = refl
 side-byte Sell = refl
 
-kind-of : (k : Kind) → kindOf (kindNumber k) (minimumOf k) ≡ k
+kind-of : (k : Kind) → kindOf (kindNumber k) (minimumOf k) (hiddenOf k) (refreshOf k) ≡ k
 kind-of Displayed = refl
 kind-of NonDisplayed = refl
 kind-of (MinimumQuantity m) = refl
+kind-of (Reserve h r) = refl
 
 -- a setter mark is read back from its number
 pub setter-of : (b : Bool) → eqb (orZero b 1) 1 ≡ b
@@ -58,15 +60,16 @@ module _ (ns : List ℕ) where
 -- the tests of a sound row of numbers, behind that of its first
 abbrev pub tests : List ℕ → List Bool
 tests ns =
-    inRange 1 3 (getD ns 1 0) ∷
+    inRange 1 4 (getD ns 1 0) ∷
     numberInRange (getD ns 2 0) ∷
     priceInRange (getD ns 3 0) ∷
     sharesInRange (getD ns 4 0) ∷
     minimumInRange (getD ns 1 0) (getD ns 4 0) (getD ns 5 0) ∷
-    (isZero (getD ns 6 0) || (eqb (getD ns 6 0) 1 && eqb (getD ns 1 0) 1)) ∷
+    (isZero (getD ns 6 0) || (eqb (getD ns 6 0) 1 && (eqb (getD ns 1 0) 1 || eqb (getD ns 1 0) 4))) ∷
     isZero (getD ns 7 0) ∷
     isZero (getD ns 8 0) ∷
-    isZero (getD ns 9 0) ∷ []
+    isZero (getD ns 9 0) ∷
+    reserveInRange (getD ns 1 0) (getD ns 10 0) (getD ns 11 0) ∷ []
 
 -- a sound row of numbers passes each test
 pub passed : (ns : List ℕ) → numbersSound ns ≡ true → Every (λ b. b ≡ true) (inRange 1 2 (getD ns 0 0) ∷ tests ns)
@@ -85,13 +88,29 @@ number-side (suc zero) e = refl
 number-side (suc (suc zero)) e = refl
 number-side (suc (suc (suc n))) e = absurd (omega (arith, range-true 1 2 (suc (suc (suc n))) e))
 
-number-kind : (n m size : ℕ) → inRange 1 3 n ≡ true → minimumInRange n size m ≡ true
-    → (kindNumber (kindOf n m) ≡ n) × (minimumOf (kindOf n m) ≡ m)
-number-kind zero m size e f = absurd (omega (arith, range-true 1 3 0 e))
-number-kind (suc zero) m size e f = (refl, sym (eqb-true m 0 f))
-number-kind (suc (suc zero)) m size e f = (refl, sym (eqb-true m 0 f))
-number-kind (suc (suc (suc zero))) m size e f = (refl, refl)
-number-kind (suc (suc (suc (suc n)))) m size e f = absurd (omega (arith, range-true 1 3 (suc (suc (suc (suc n)))) e))
+-- of a kind the numbers that say it
+record Numbered (n m h r : ℕ) (k : Kind) : Type 0 where
+  kind : kindNumber k ≡ n
+  minimum : minimumOf k ≡ m
+  hidden : hiddenOf k ≡ h
+  refresh : refreshOf k ≡ r
+
+-- a kind without hidden shares and a refresh size
+no-reserve : (n m h r : ℕ) (k : Kind) → kindNumber k ≡ n → minimumOf k ≡ m → hiddenOf k ≡ 0 → refreshOf k ≡ 0 → (isZero h && isZero r) ≡ true
+    → Numbered n m h r k
+no-reserve n m h r k a b c d e =
+    let z = and-true (isZero h) (isZero r) e in
+    record { kind = a; minimum = b; hidden = c ∙ sym (eqb-true h 0 (z .0)); refresh = d ∙ sym (eqb-true r 0 (z .1)) }
+
+number-kind : (n m size h r : ℕ) → inRange 1 4 n ≡ true → minimumInRange n size m ≡ true → reserveInRange n h r ≡ true
+    → Numbered n m h r (kindOf n m h r)
+number-kind zero m size h r e f g = absurd (omega (arith, range-true 1 4 0 e))
+number-kind (suc zero) m size h r e f g = no-reserve 1 m h r Displayed refl (sym (eqb-true m 0 f)) refl refl g
+number-kind (suc (suc zero)) m size h r e f g = no-reserve 2 m h r NonDisplayed refl (sym (eqb-true m 0 f)) refl refl g
+number-kind (suc (suc (suc zero))) m size h r e f g = no-reserve 3 m h r (MinimumQuantity (record { 0 = m })) refl refl refl refl g
+number-kind (suc (suc (suc (suc zero)))) m size h r e f g =
+    record { kind = refl; minimum = sym (eqb-true m 0 f); hidden = refl; refresh = refl }
+number-kind (suc (suc (suc (suc (suc n))))) m size h r e f g = absurd (omega (arith, range-true 1 4 (suc (suc (suc (suc (suc n))))) e))
 
 number-setter : (n : ℕ) (b : Bool) → (isZero n || (eqb n 1 && b)) ≡ true → orZero (eqb n 1) 1 ≡ n
 number-setter n b e = go (eqb n 1) (isZero n) refl refl e
@@ -102,12 +121,20 @@ number-setter n b e = go (eqb n 1) (isZero n) refl refl e
     go false false p q e = absurd (false≢true e)
 
 -- a sound row of numbers is that of the order that is read from it
-pub numbers-order : (ns : List ℕ) → numbersSound ns ≡ true → length ns ≡ 10 → numbersOf (orderOf ns) ≡ ns
+pub numbers-order : (ns : List ℕ) → numbersSound ns ≡ true → length ns ≡ 12 → numbersOf (orderOf ns) ≡ ns
 unfolding numbersOf orderOf
 numbers-order ns e l =
     let t = passed ns e in
     let m = t .1 .1 .1 .1 .1 in
     let z = m .1 .1 in
-    let k = number-kind (getD ns 1 0) (getD ns 5 0) (getD ns 4 0) (t .1 .0) (m .0) in
-    let c = rw (eqb-true (getD ns 7 0) 0 (z .0), eqb-true (getD ns 8 0) 0 (z .1 .0), eqb-true (getD ns 9 0) 0 (z .1 .1 .0)) at (cells-are ns 0 10 l) in
-    rw (number-side (getD ns 0 0) (t .0), k .0, k .1, number-setter (getD ns 6 0) (eqb (getD ns 1 0) 1) (m .1 .0)) (sym c)
+    let k = number-kind (getD ns 1 0) (getD ns 5 0) (getD ns 4 0) (getD ns 10 0) (getD ns 11 0) (t .1 .0) (m .0) (z .1 .1 .1 .0) in
+    let c = rw (eqb-true (getD ns 7 0) 0 (z .0), eqb-true (getD ns 8 0) 0 (z .1 .0), eqb-true (getD ns 9 0) 0 (z .1 .1 .0)) at (cells-are ns 0 12 l) in
+    rw (
+      number-side (getD ns 0 0) (t .0),
+      k .kind,
+      k .minimum,
+      k .hidden,
+      k .refresh,
+      number-setter (getD ns 6 0) (eqb (getD ns 1 0) 1 || eqb (getD ns 1 0) 4) (m .1 .0),
+    )
+    (sym c)

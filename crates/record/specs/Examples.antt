@@ -1,23 +1,23 @@
--- Worked values of the two forms, computed by the checker.
+-- Worked values of the forms of orders and executions, computed by the checker.
 use Prim.Native.Nat.{ℕ}
 use mathlib.Core.Path.{_≡_, refl}
 use mathlib.Core.Bool.{Bool, true, not}
 use mathlib.Core.List.{List, [], _∷_, _++_, map}
-use lib.ListN.{set}
+use lib.ListN.{take, drop, set}
 use lib.Dec.{eqb}
 use Rattle.units.specs.Lists.{all, orZero, sameNumbers}
-use Rattle.orders.specs.Order.{sideNumber, kindNumber, minimumOf, priceOf, sizeOf}
+use Rattle.orders.specs.Order.{sideNumber, kindNumber, minimumOf, hiddenOf, refreshOf, priceOf, sizeOf}
 use Rattle.orders.specs.declared.order.Order.{Order}
 use Rattle.record.specs.declared.execution.Execution.{Execution}
 use Rattle.record.specs.Codec.{replaced, formBytes, encode, decode}
-use Rattle.record.specs.Record.{orderForm, numbersOf, orderOf, numbersSound, encodeOrder, decodeOrder, recordSound}
+use Rattle.record.specs.Record.{orderForm, oldForm, numbersOf, orderOf, numbersSound, encodeOrder, decodeOrder, recordSound}
 use Rattle.record.specs.Execution.{executionBytes, encodeExecution, executionOf, decodeExecution, executionsIn}
 
 -- order 258, a displayed sell of 600 at 10.00 dollars that set the price
 setter : List ℕ
 setter =
-    0x4f ∷ 0x42 ∷ 2 ∷ 1 ∷ 2 ∷ 1 ∷ 0 ∷ 0 ∷ 0xa0 ∷ 0x86 ∷ 1 ∷ 0 ∷ 0x58 ∷ 2 ∷ 0 ∷ 0 ∷ 0 ∷ 0 ∷ 0 ∷ 0 ∷ 1 ∷ 0 ∷ 0 ∷ 0 ∷ 0 ∷ 0 ∷ 0 ∷ 0 ∷ 0 ∷
-    0 ∷ 0 ∷ 0 ∷ []
+    0x4f ∷ 0x43 ∷ 2 ∷ 1 ∷ 2 ∷ 1 ∷ 0 ∷ 0 ∷ 0xa0 ∷ 0x86 ∷ 1 ∷ 0 ∷ 0x58 ∷ 2 ∷ 0 ∷ 0 ∷ 0 ∷ 0 ∷ 0 ∷ 0 ∷ 1 ∷ 0 ∷ 0 ∷ 0 ∷ 0 ∷ 0 ∷ 0 ∷ 0 ∷ 0 ∷
+    0 ∷ 0 ∷ 0 ∷ 0 ∷ 0 ∷ 0 ∷ 0 ∷ 0 ∷ 0 ∷ 0 ∷ 0 ∷ []
 
 -- the same without the mark
 unmarked : List ℕ
@@ -25,12 +25,21 @@ unmarked = set setter 20 0
 
 -- order 1, a minimum quantity sell of 500
 ofMinimum : ℕ → Order
-ofMinimum m = orderOf (2 ∷ 3 ∷ 1 ∷ 100000 ∷ 500 ∷ m ∷ 0 ∷ 0 ∷ 0 ∷ 0 ∷ [])
+ofMinimum m = orderOf (2 ∷ 3 ∷ 1 ∷ 100000 ∷ 500 ∷ m ∷ 0 ∷ 0 ∷ 0 ∷ 0 ∷ 0 ∷ 0 ∷ [])
 
--- an order's side, kind, number, price, size, minimum and mark
+-- order 1, a marked reserve sell that shows 100: hidden shares, refresh size
+ofReserve : ℕ → ℕ → Order
+ofReserve h r = orderOf (2 ∷ 4 ∷ 1 ∷ 100000 ∷ 100 ∷ 0 ∷ 1 ∷ 0 ∷ 0 ∷ 0 ∷ h ∷ r ∷ [])
+
+abbrev reserveSound : ℕ → ℕ → Bool
+reserveSound h r = recordSound orderForm (encodeOrder orderForm (ofReserve h r))
+
+-- an order's side, kind, number, price, size, minimum, mark, hidden shares and refresh size
 reads : Order → List ℕ → Bool
 reads o =
-    sameNumbers (sideNumber (o .side) ∷ kindNumber (o .kind) ∷ o .number ∷ priceOf o ∷ sizeOf o ∷ minimumOf (o .kind) ∷ orZero (o .setter) 1 ∷ [])
+    sameNumbers
+    (sideNumber (o .side) ∷ kindNumber (o .kind) ∷ o .number ∷ priceOf o ∷ sizeOf o ∷ minimumOf (o .kind) ∷ orZero (o .setter) 1
+    ∷ hiddenOf (o .kind) ∷ refreshOf (o .kind) ∷ [])
 
 -- an execution's number, price, shares and paragraph
 tells : Execution → List ℕ → Bool
@@ -41,8 +50,10 @@ execution = record { number = 3; price = record { 0 = 100000 }; shares = record 
 
 values : List Bool
 values =
-    -- 32 bytes
-    eqb (formBytes orderForm) 32 ∷
+    -- 40 bytes, and 32 in the old form, which has the same numbers but the last two, behind another mark
+    eqb (formBytes orderForm) 40 ∷
+    eqb (formBytes oldForm) 32 ∷
+    sameNumbers (encode oldForm (numbersOf (ofMinimum 400))) (set (take 32 (encodeOrder orderForm (ofMinimum 400))) 1 0x42) ∷
     recordSound orderForm setter ∷
     sameNumbers (encodeOrder orderForm (decodeOrder orderForm setter)) setter ∷
     recordSound orderForm (encodeOrder orderForm (ofMinimum 400)) ∷
@@ -56,7 +67,8 @@ values =
     not (recordSound orderForm (set setter 2 0)) ∷
     not (recordSound orderForm (set setter 2 3)) ∷
     not (recordSound orderForm (set unmarked 3 0)) ∷
-    not (recordSound orderForm (set unmarked 3 4)) ∷
+    not (recordSound orderForm (set unmarked 3 5)) ∷
+    not (recordSound orderForm (set setter 1 0x42)) ∷
     not (recordSound orderForm (set (set setter 4 0) 5 0)) ∷
     not (recordSound orderForm (set setter 11 0x78)) ∷
     not (recordSound orderForm (set setter 14 16)) ∷
@@ -66,15 +78,38 @@ values =
     not (recordSound orderForm (encodeOrder orderForm (ofMinimum 501))) ∷
     not (recordSound orderForm (encodeOrder orderForm (ofMinimum 0))) ∷
     all (λ n. not (recordSound orderForm (set setter n 1))) (21 ∷ 22 ∷ 23 ∷ 24 ∷ 25 ∷ 26 ∷ 27 ∷ 28 ∷ 29 ∷ 30 ∷ 31 ∷ []) ∷
+    -- hidden shares and a refresh size on no other kind
+    all (λ n. not (recordSound orderForm (set setter n 1))) (32 ∷ 33 ∷ 34 ∷ 35 ∷ 36 ∷ 37 ∷ 38 ∷ 39 ∷ []) ∷
+    not (recordSound orderForm (set (set unmarked 3 2) 32 5)) ∷
+    not (recordSound orderForm (set (encodeOrder orderForm (ofMinimum 400)) 36 5)) ∷
     -- what its numbers say
-    reads (decodeOrder orderForm setter) (2 ∷ 1 ∷ 258 ∷ 100000 ∷ 600 ∷ 0 ∷ 1 ∷ []) ∷
-    reads (decodeOrder orderForm (encodeOrder orderForm (ofMinimum 400))) (2 ∷ 3 ∷ 1 ∷ 100000 ∷ 500 ∷ 400 ∷ 0 ∷ []) ∷
+    reads (decodeOrder orderForm setter) (2 ∷ 1 ∷ 258 ∷ 100000 ∷ 600 ∷ 0 ∷ 1 ∷ 0 ∷ 0 ∷ []) ∷
+    reads (decodeOrder orderForm (encodeOrder orderForm (ofMinimum 400))) (2 ∷ 3 ∷ 1 ∷ 100000 ∷ 500 ∷ 400 ∷ 0 ∷ 0 ∷ 0 ∷ []) ∷
+    reads (decodeOrder orderForm (encodeOrder orderForm (ofReserve 250 300))) (2 ∷ 4 ∷ 1 ∷ 100000 ∷ 100 ∷ 0 ∷ 1 ∷ 250 ∷ 300 ∷ []) ∷
+    -- where the hidden shares and the refresh size stand
+    sameNumbers (drop 32 (encodeOrder orderForm (ofReserve 250 300))) (0xfa ∷ 0 ∷ 0 ∷ 0 ∷ 0x2c ∷ 1 ∷ 0 ∷ 0 ∷ []) ∷
     -- bytes in the place of others
     sameNumbers (replaced 1 (8 ∷ 9 ∷ []) (1 ∷ 2 ∷ 3 ∷ 4 ∷ [])) (1 ∷ 8 ∷ 9 ∷ 4 ∷ []) ∷ []
 
 worked : all (λ b. b) values ≡ true
-unfolding values setter unmarked ofMinimum reads encode decode numbersOf orderOf numbersSound
+unfolding values setter unmarked ofMinimum ofReserve reads encode decode numbersOf orderOf numbersSound
 worked = refl
+
+-- a reserve order may be marked, hide nothing, and show more or less than its refresh size
+reserves : List Bool
+reserves =
+    reserveSound 250 100 ∷
+    reserveSound 0 100 ∷
+    reserveSound 999999 1 ∷
+    reserveSound 7 999999 ∷
+    not (reserveSound 1000000 100) ∷
+    not (reserveSound 250 0) ∷
+    not (reserveSound 250 1000000) ∷
+    not (recordSound orderForm (set (encodeOrder orderForm (ofReserve 250 100)) 16 1)) ∷ []
+
+reserves-worked : all (λ b. b) reserves ≡ true
+unfolding reserves ofReserve encode decode numbersOf orderOf numbersSound
+reserves-worked = refl
 
 executions : List Bool
 executions =

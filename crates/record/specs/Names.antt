@@ -13,4 +13,6 @@ namedNumbers ns = record {
   size = getD ns 4 0;
   minimum = getD ns 5 0;
   setter = getD ns 6 0;
+  hidden = getD ns 10 0;
+  refresh = getD ns 11 0;
 }

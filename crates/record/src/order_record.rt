@@ -1,4 +1,4 @@
-// The record of an order, 32 bytes, both ways, and what makes one sound.
+// The record of an order, 40 bytes, both ways, and what makes one sound.
 use crate::bytes;
 use orders::order::Kind;
 use orders::order::Order;
@@ -7,10 +7,11 @@ use orders::range;
 use units::Price;
 use units::Shares;
 ghost use mathlib.Core.Path.{_≡_};
-ghost use lib.ListN.{length, drop};
+ghost use lib.ListN.{length, take, drop};
 ghost use Rattle.units.specs.Lists.{all, orZero, isZero};
+ghost use Rattle.orders.specs.Order.{interest, settled, isResting};
 ghost use Rattle.record.specs.Codec.{decode, hasMark};
-ghost use Rattle.record.specs.Record.{orderForm, encodeOrder, decodeOrder, recordSound};
+ghost use Rattle.record.specs.Record.{orderForm, numbersOf, encodeOrder, decodeOrder, recordSound};
 ghost use Rattle.record.specs.Names.{namedNumbers};
 
 // The numbers of a record that say its order.
@@ -22,11 +23,13 @@ pub struct Numbers {
     pub size: u32,
     pub minimum: u32,
     pub setter: u32,
+    pub hidden: u32,
+    pub refresh: u32,
 }
 
 // They are read each at its own place.
 pub fn numbers_of(rec: &[u8]) -> Numbers
-    requires { ⌜ length (now rec) ≡ 32 ⌝ }
+    requires { ⌜ length (now rec) ≡ 40 ⌝ }
     ensures { λ r. ⌜ r ≡ namedNumbers (decode orderForm (now (rec .entry))) ⌝ }
 {
     let side = rec[2];
@@ -40,18 +43,20 @@ pub fn numbers_of(rec: &[u8]) -> Numbers
         size: bytes::read_u32(rec, 12),
         minimum: bytes::read_u32(rec, 16),
         setter: bytes::wide(setter),
+        hidden: bytes::read_u32(rec, 32),
+        refresh: bytes::read_u32(rec, 36),
     }
 }
 
 // The order that a record says.
 pub fn read(rec: &[u8]) -> Order
-    requires { ⌜ length (now rec) ≡ 32 ⌝ }
+    requires { ⌜ length (now rec) ≡ 40 ⌝ }
     ensures { λ r. ⌜ r ≡ decodeOrder orderForm (now (rec .entry)) ⌝ }
 {
     let n = numbers_of(rec);
     Order {
         side: Side::of(n.side),
-        kind: Kind::of(n.kind, n.minimum),
+        kind: Kind::of(n.kind, n.minimum, n.hidden, n.refresh),
         number: n.number,
         price: Price(n.price),
         size: Shares(n.size),
@@ -59,18 +64,31 @@ pub fn read(rec: &[u8]) -> Order
     }
 }
 
+// Whether an order still rests after it lost displayed and non-displayed shares, by the numbers of its record.
+pub fn rests_after(n: Numbers, shown: Shares, hidden: Shares) -> bool
+    ensures { λ r. ⌜ ((o : Order) → n ≡ namedNumbers (numbersOf o) → r ≡ isResting (settled (interest (shown .0) (hidden .0)) o)) ⌝ }
+{
+    if (n.kind == 2) | (n.kind == 3) {
+        return hidden.0 < n.size;
+    }
+    (shown.0 < n.size) | (hidden.0 < n.hidden)
+}
+
+// The mark that every record of an order begins with.
+const MARK: [u8; 2] = *b"OC";
+
 // Whether the record begins with the mark of an order.
 fn has_mark(rec: &[u8]) -> bool
-    requires { ⌜ length (now rec) ≡ 32 ⌝ }
+    requires { ⌜ length (now rec) ≡ 40 ⌝ }
     ensures { λ r. ⌜ r ≡ hasMark orderForm (now (rec .entry)) ⌝ }
 {
-    (rec[0] == 0x4f) & (rec[1] == 0x42)
+    bytes::same(&rec[..2], &MARK)
 }
 
 // Whether the bytes behind the setter mark, 21 to 31, are zero.
 fn is_clear_behind(rec: &[u8]) -> bool
-    requires { ⌜ length (now rec) ≡ 32 ⌝ }
-    ensures { λ r. ⌜ r ≡ all isZero (drop 21 (now (rec .entry))) ⌝ }
+    requires { ⌜ length (now rec) ≡ 40 ⌝ }
+    ensures { λ r. ⌜ r ≡ all isZero (take 11 (drop 21 (now (rec .entry)))) ⌝ }
 {
     (rec[21] == 0)
         & (rec[22] == 0)
@@ -79,21 +97,23 @@ fn is_clear_behind(rec: &[u8]) -> bool
         & (bytes::read_u32(rec, 28) == 0)
 }
 
-// Whether the record is sound: the mark, each number in its range, a setter mark on kind 1 alone, and zeros in bytes 21 to 31.
+// Whether the record is sound: the mark, each number in its range, a setter mark on kinds 1 and 4 alone, zeros in bytes 21 to 31, and
+// hidden shares and a refresh size on kind 4 alone.
 pub fn is_sound(rec: &[u8]) -> bool
-    requires { ⌜ length (now rec) ≡ 32 ⌝ }
+    requires { ⌜ length (now rec) ≡ 40 ⌝ }
     ensures { λ r. ⌜ r ≡ recordSound orderForm (now (rec .entry)) ⌝ }
 {
     let n = numbers_of(rec);
     has_mark(rec)
         & units::in_range(1, 2, n.side)
-        & units::in_range(1, 3, n.kind)
+        & units::in_range(1, 4, n.kind)
         & range::number_in_range(n.number)
         & range::price_in_range(n.price)
         & range::shares_in_range(n.size)
         & range::minimum_in_range(n.kind, n.size, n.minimum)
-        & ((n.setter == 0) | ((n.setter == 1) & (n.kind == 1)))
+        & ((n.setter == 0) | ((n.setter == 1) & ((n.kind == 1) | (n.kind == 4))))
         & is_clear_behind(rec)
+        & range::reserve_in_range(n.kind, n.hidden, n.refresh)
 }
 
 // A setter mark as a number.
@@ -104,7 +124,7 @@ fn mark(setter: bool) -> u8
 }
 
 // The record of an order.
-pub fn bytes_of(order: Order) -> [u8; 32]
+pub fn bytes_of(order: Order) -> [u8; 40]
     ensures { λ r. ⌜ r ≡ encodeOrder orderForm order ⌝ }
 {
     let side = order.side;
@@ -116,9 +136,11 @@ pub fn bytes_of(order: Order) -> [u8; 32]
     let z = bytes::u32_bytes(order.size.0);
     let m = bytes::u32_bytes(kind.minimum().0);
     let f = mark(order.setter);
-    [
-        0x4f,
-        0x42,
+    let h = bytes::u32_bytes(kind.hidden().0);
+    let r = bytes::u32_bytes(kind.refresh().0);
+    let mut rec = [
+        0,
+        0,
         s,
         k,
         n[0],
@@ -149,5 +171,15 @@ pub fn bytes_of(order: Order) -> [u8; 32]
         0,
         0,
         0,
-    ]
+        h[0],
+        h[1],
+        h[2],
+        h[3],
+        r[0],
+        r[1],
+        r[2],
+        r[3],
+    ];
+    bytes::put(&mut rec, 0, &MARK);
+    rec
 }

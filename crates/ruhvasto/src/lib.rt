@@ -21,9 +21,9 @@ ghost use Rattle.ladder.specs.Depth.{Tells};
 // The version of the interface, as the header's RUHVASTO_VERSION.
 #[no_mangle]
 pub extern "C" fn ruhvasto_version() -> u32
-    ensures { λ r. ⌜ r ≡ 5 ⌝ }
+    ensures { λ r. ⌜ r ≡ 6 ⌝ }
 {
-    5
+    6
 }
 
 // Whether the book is sound, and how many orders it has.

@@ -44,22 +44,22 @@ left-split (suc k) (suc n) (x ∷ shown) (y ∷ hidden) (o ∷ os) h a b c =
 module _ {s shown hidden b : List ℕ} {n i moves : ℕ} (p : Passed s n shown hidden b i i moves) where
   -- behind them lie the other records
   module _ (h : i < n) where
-    pub records-behind : Records (drop (32 * i) b) (n - i) (drop i shown) (drop i hidden)
+    pub records-behind : Records (drop (40 * i) b) (n - i) (drop i shown) (drop i hidden)
     records-behind =
         let g = p .begun in
         record {
-          room = omega (arith, length-drop (32 * i) b, g .room, p .bytes .long);
+          room = omega (arith, length-drop (40 * i) b, g .room, p .bytes .long);
           each = rw (p .bytes .same) (behind-sound i n s (p .within) (g .each));
           shown-each = omega (arith, length-drop i shown, g .shown-each);
           hidden-each = omega (arith, length-drop i hidden, g .hidden-each);
         }
 
     -- the next order is the first of them
-    pub first-behind-left : leftAt (drop (32 * i) b) 0 (getD (drop i shown) 0 0) (getD (drop i hidden) 0 0) ≡ leftAt b (32 * i) (getD shown i 0) (getD hidden i 0)
+    pub first-behind-left : leftAt (drop (40 * i) b) 0 (getD (drop i shown) 0 0) (getD (drop i hidden) 0 0) ≡ leftAt b (40 * i) (getD shown i 0) (getD hidden i 0)
     first-behind-left = let e : i + 0 ≡ i = omega arith in rw (getD-drop i shown 0 0, getD-drop i hidden 0 0, e)
 
     -- all orders as they are left: those, and the ones behind
-    left-both : leftIn n shown hidden s ≡ lefts s n shown hidden i ++ leftIn (n - i) (drop i shown) (drop i hidden) (drop (32 * i) b)
+    left-both : leftIn n shown hidden s ≡ lefts s n shown hidden i ++ leftIn (n - i) (drop i shown) (drop i hidden) (drop (40 * i) b)
     left-both =
         let g = p .begun in
         let os = firstOrders n s in
@@ -68,39 +68,39 @@ module _ {s shown hidden b : List ℕ} {n i moves : ℕ} (p : Passed s n shown h
         (first-behind i n s (p .within) ∙ ap (firstOrders (n - i)) (sym (p .bytes .same)))
 
     -- as many move as move behind
-    pub moves-behind-all : movesOf (leftIn (n - i) (drop i shown) (drop i hidden) (drop (32 * i) b)) ≡ movesOf (leftIn n shown hidden s)
+    pub moves-behind-all : movesOf (leftIn (n - i) (drop i shown) (drop i hidden) (drop (40 * i) b)) ≡ movesOf (leftIn n shown hidden s)
     moves-behind-all =
         let l : length (lefts s n shown hidden i) ≤ length (rests s n shown hidden i) = omega (arith, p .many, p .count) in
-        sym (ap movesOf left-both ∙ moves-front (lefts s n shown hidden i) (leftIn (n - i) (drop i shown) (drop i hidden) (drop (32 * i) b)) l)
+        sym (ap movesOf left-both ∙ moves-front (lefts s n shown hidden i) (leftIn (n - i) (drop i shown) (drop i hidden) (drop (40 * i) b)) l)
 
     -- what stands before them, and the records behind closed up, are all of them closed up
-    pub closed-both : take (32 * i) b
-        ++ closedUp (n - i) (filter isResting (leftIn (n - i) (drop i shown) (drop i hidden) (drop (32 * i) b))) (drop (32 * i) b)
+    pub closed-both : take (40 * i) b
+        ++ closedUp (n - i) (filter isResting (leftIn (n - i) (drop i shown) (drop i hidden) (drop (40 * i) b))) (drop (40 * i) b)
         ≡ closedUp n (filter isResting (leftIn n shown hidden s)) s
     closed-both =
         let enc = encodeOrder form in
         let ps = rests s n shown hidden i in
-        let xs = filter isResting (leftIn (n - i) (drop i shown) (drop i hidden) (drop (32 * i) b)) in
-        let free = replicate {A = ℕ} (32 * (n - i - length xs)) 0 in
+        let xs = filter isResting (leftIn (n - i) (drop i shown) (drop i hidden) (drop (40 * i) b)) in
+        let free = replicate {A = ℕ} (40 * (n - i - length xs)) 0 in
         let all : ps ++ xs ≡ filter isResting (leftIn n shown hidden s) =
         sym (ap (filter isResting) left-both
-        ∙ filter-append isResting (lefts s n shown hidden i) (leftIn (n - i) (drop i shown) (drop i hidden) (drop (32 * i) b))) in
-        let front : take (32 * i) b ≡ flatMap enc ps = ap (λ k. take k b) (front-long p) ∙ p .bytes .begins in
-        let k : 32 * (n - i - length xs) ≡ 32 * (n - length (ps ++ xs)) = omega (arith, length-append ps xs, p .count) in
-        let m : 32 * i + 32 * (n - i) ≡ 32 * n = omega arith in
-        let rest : drop (32 * (n - i)) (drop (32 * i) b) ≡ drop (32 * n) s =
-        ap (drop (32 * (n - i))) (p .bytes .same) ∙ drop-drop (32 * (n - i)) (32 * i) s ∙ ap (λ j. drop j s) m in
+        ∙ filter-append isResting (lefts s n shown hidden i) (leftIn (n - i) (drop i shown) (drop i hidden) (drop (40 * i) b))) in
+        let front : take (40 * i) b ≡ flatMap enc ps = ap (λ k. take k b) (front-long p) ∙ p .bytes .begins in
+        let k : 40 * (n - i - length xs) ≡ 40 * (n - length (ps ++ xs)) = omega (arith, length-append ps xs, p .count) in
+        let m : 40 * i + 40 * (n - i) ≡ 40 * n = omega arith in
+        let rest : drop (40 * (n - i)) (drop (40 * i) b) ≡ drop (40 * n) s =
+        ap (drop (40 * (n - i))) (p .bytes .same) ∙ drop-drop (40 * (n - i)) (40 * i) s ∙ ap (λ j. drop j s) m in
         ap₂ (λ x y. x ++ (flatMap enc xs ++ (free ++ y))) front rest
-        ∙ sym (append-assoc (flatMap enc ps) (flatMap enc xs) (free ++ drop (32 * n) s))
-        ∙ ap₂ (λ x j. x ++ (replicate {A = ℕ} j 0 ++ drop (32 * n) s)) (sym (flat-append enc ps xs)) k
+        ∙ sym (append-assoc (flatMap enc ps) (flatMap enc xs) (free ++ drop (40 * n) s))
+        ∙ ap₂ (λ x j. x ++ (replicate {A = ℕ} j 0 ++ drop (40 * n) s)) (sym (flat-append enc ps xs)) k
         ∙ ap (λ os. closedUp n os s) all
 
   -- where they are all there are, nothing is to be closed
   pub closed-none : i ≡ n → b ≡ closedUp n (filter isResting (leftIn n shown hidden s)) s
   closed-none e =
-      let m : 32 * (n - i) ≡ 0 = omega arith in
-      let k : 32 * i + 0 ≡ 32 * i = omega arith in
-      sym (take-append-drop (32 * i) b) ∙ ap (λ j. take (32 * i) b ++ drop j b) (sym k) ∙ rw m at (passed-done p e)
+      let m : 40 * (n - i) ≡ 0 = omega arith in
+      let k : 40 * i + 0 ≡ 40 * i = omega arith in
+      sym (take-append-drop (40 * i) b) ∙ ap (λ j. take (40 * i) b ++ drop j b) (sym k) ∙ rw m at (passed-done p e)
 
 -- A sound book of n orders.
 module _ (s : List ℕ) (a : sound s ≡ true) (n : ℕ) (h : n ≡ length (ordersOf s)) where
@@ -109,21 +109,21 @@ module _ (s : List ℕ) (a : sound s ≡ true) (n : ℕ) (h : n ≡ length (orde
   book-records x y = record { room = omega (arith, sound-fits s a .0); each = rw h (records-sound s a); shown-each = x; hidden-each = y }
 
   -- the bytes behind the orders are zero
-  unused : AreBytes s → drop (32 * n) s ≡ zeros (32 * (capacityOf s - n))
+  unused : AreBytes s → drop (40 * n) s ≡ zeros (40 * (capacityOf s - n))
   unfolding bookOf
   unused z =
       let rs = flatMap (encodeOrder form) (ordersOf s) in
-      rw h (ap (drop (32 * length (ordersOf s))) (sym (book-orders s a z))
-      ∙ drop-at rs (zeros (32 * (capacityOf s - length (ordersOf s)))) (32 * length (ordersOf s)) (length-orders (ordersOf s)))
+      rw h (ap (drop (40 * length (ordersOf s))) (sym (book-orders s a z))
+      ∙ drop-at rs (zeros (40 * (capacityOf s - length (ordersOf s)))) (40 * length (ordersOf s)) (length-orders (ordersOf s)))
 
   -- with zeros in front of them they are those behind fewer
   closed-free : AreBytes s → (os : List Order) → length os ≤ n → closedUp n os s ≡ bookOf (capacityOf s) os
   unfolding bookOf
   closed-free z os l =
-      let e : 32 * (n - length os) + 32 * (capacityOf s - n) ≡ 32 * (capacityOf s - length os) = omega (arith, orders-fit s) in
+      let e : 40 * (n - length os) + 40 * (capacityOf s - n) ≡ 40 * (capacityOf s - length os) = omega (arith, orders-fit s) in
       ap (λ t. flatMap (encodeOrder form) os ++ t)
-      (ap (λ t. zeros (32 * (n - length os)) ++ t) (unused z)
-      ∙ replicate-append-replicate (32 * (n - length os)) (32 * (capacityOf s - n)) 0
+      (ap (λ t. zeros (40 * (n - length os)) ++ t) (unused z)
+      ∙ replicate-append-replicate (40 * (n - length os)) (40 * (capacityOf s - n)) 0
       ∙ ap zeros e)
 
   -- closed up it is the book of the orders that still rest, and what stands in other places than before has moved

@@ -56,7 +56,7 @@ module _ (s : List ℕ) (n : ℕ) (shown hidden : List ℕ) where
     pub many : i ≡ length (lefts i)
     pub count : kept ≡ length (rests i)
     pub moved : moves ≡ movesOf (lefts i)
-    pub bytes : Filled (flatMap (encodeOrder form) (rests i)) (32 * i) s b
+    pub bytes : Filled (flatMap (encodeOrder form) (rests i)) (40 * i) s b
 
 -- before the first order nothing has changed
 pub passed-none : {s shown hidden : List ℕ} {n : ℕ} → Records s n shown hidden → Passed s n shown hidden s 0 0 0
@@ -72,27 +72,27 @@ passed-none {s} g = record {
 
 module _ {s shown hidden b : List ℕ} {n i kept moves : ℕ} (p : Passed s n shown hidden b i kept moves) where
   -- the records of the orders that still rest
-  pub front-long : 32 * kept ≡ length (flatMap (encodeOrder form) (rests s n shown hidden i))
-  front-long = ap (λ n. 32 * n) (p .count) ∙ sym (length-orders (rests s n shown hidden i))
+  pub front-long : 40 * kept ≡ length (flatMap (encodeOrder form) (rests s n shown hidden i))
+  front-long = ap (λ n. 40 * n) (p .count) ∙ sym (length-orders (rests s n shown hidden i))
 
   -- The next order, and what it loses.
   module _ (h : i < n) (d e : ℕ) where
     -- its record lies there
-    pub record-next : RecordAt b (32 * i)
+    pub record-next : RecordAt b (40 * i)
     record-next = (
       omega (arith, p .begun .room, p .bytes .long),
-      ap (λ t. recordSound form (take 32 t)) (p .bytes .same) ∙ first-sound n s i h (p .begun .each),
+      ap (λ t. recordSound form (take 40 t)) (p .bytes .same) ∙ first-sound n s i h (p .begun .each),
     )
 
     -- what the loss leaves of it
     abbrev left : Order
-    left = leftAt b (32 * i) (getD shown i d) (getD hidden i e)
+    left = leftAt b (40 * i) (getD shown i d) (getD hidden i e)
 
     -- it comes behind the others
     next : lefts s n shown hidden (i + 1) ≡ lefts s n shown hidden i ++ (left ∷ [])
     next =
         let o = orderAt b i in
-        let here : getD (firstOrders n s) i o ≡ o = first-get n s i o h ∙ ap (λ t. decodeOrder form (take 32 t)) (sym (p .bytes .same)) in
+        let here : getD (firstOrders n s) i o ≡ o = first-get n s i o h ∙ ap (λ t. decodeOrder form (take 40 t)) (sym (p .bytes .same)) in
         let g = p .begun in
         rw add-one
         (rw here at (left-suc i shown hidden (firstOrders n s) d e o (omega (arith, g .shown-each)) (omega (arith, g .hidden-each)) (omega (arith, first-count n s))))
@@ -114,13 +114,13 @@ module _ {s shown hidden b : List ℕ} {n i kept moves : ℕ} (p : Passed s n sh
           many = many-next;
           count = p .count ∙ ap length (sym t);
           moved = p .moved ∙ sym (ap movesOf next ∙ moves-gone left (lefts s n shown hidden i) q);
-          bytes = rw t (filled-same (p .bytes) (32 * (i + 1)) (omega arith));
+          bytes = rw t (filled-same (p .bytes) (40 * (i + 1)) (omega arith));
         }
 
     -- It still rests.
     module _ (q : isResting left ≡ true) where
       -- its record is written behind those of the others, and with it so many have moved
-      passed-kept : {a : List ℕ} → a ≡ replaced (32 * kept) (encodeOrder form left) b → {m : ℕ}
+      passed-kept : {a : List ℕ} → a ≡ replaced (40 * kept) (encodeOrder form left) b → {m : ℕ}
           → m ≡ movesOf (lefts s n shown hidden i ++ (left ∷ [])) → Passed s n shown hidden a (i + 1) (kept + 1) m
       passed-kept w m =
           let t : rests s n shown hidden (i + 1) ≡ rests s n shown hidden i ++ (left ∷ []) = rests-next ∙ rw q in
@@ -133,21 +133,21 @@ module _ {s shown hidden b : List ℕ} {n i kept moves : ℕ} (p : Passed s n sh
             count = ap (λ k. k + 1) (p .count) ∙ sym (ap length t ∙ length-append r (left ∷ []));
             moved = m ∙ ap movesOf (sym next);
             bytes = rw (w, t, flat-last (encodeOrder form) r left)
-                (filled-more (p .bytes) (encodeOrder form left) (32 * (i + 1)) (omega (arith, length-order left, front-long, p .few)) (omega arith)
+                (filled-more (p .bytes) (encodeOrder form left) (40 * (i + 1)) (omega (arith, length-order left, front-long, p .few)) (omega arith)
                 (omega (arith, p .begun .room)) front-long);
           }
 
       -- each before it rests too: it loses its shares where it stands
-      pub passed-same : i ≤ kept → {a : List ℕ} → a ≡ replaced (32 * i) (encodeOrder form left) b → Passed s n shown hidden a (i + 1) (kept + 1) moves
+      pub passed-same : i ≤ kept → {a : List ℕ} → a ≡ replaced (40 * i) (encodeOrder form left) b → Passed s n shown hidden a (i + 1) (kept + 1) moves
       passed-same k w =
           let e : i ≡ kept = omega (arith, p .few) in
           let l : length (lefts s n shown hidden i) ≤ length (rests s n shown hidden i) = omega (arith, p .many, p .count) in
           let os = lefts s n shown hidden i in
-          passed-kept (w ∙ ap (λ j. replaced (32 * j) (encodeOrder form left) b) e)
+          passed-kept (w ∙ ap (λ j. replaced (40 * j) (encodeOrder form left) b) e)
           (p .moved ∙ ap movesOf (sym (append-nil os)) ∙ moves-front os [] l ∙ sym (moves-front os (left ∷ []) l ∙ rw q))
 
       -- one before it left: it moves up, and loses its shares on the way
-      pub passed-moved : kept < i → {a : List ℕ} → a ≡ replaced (32 * kept) (encodeOrder form left) b
+      pub passed-moved : kept < i → {a : List ℕ} → a ≡ replaced (40 * kept) (encodeOrder form left) b
           → Passed s n shown hidden a (i + 1) (kept + 1) (moves + 1)
       passed-moved k w =
           passed-kept w (ap (λ m. m + 1) (p .moved) ∙ sym (moves-more left (lefts s n shown hidden i) q (omega (arith, p .count, p .many))))
@@ -163,14 +163,14 @@ module _ {s shown hidden b : List ℕ} {n i kept moves : ℕ} (p : Passed s n sh
     moved-done = p .moved ∙ ap movesOf left-all
 
     -- zeros come in behind those that still rest
-    pub passed-done : replaced (32 * kept) (replicate (32 * (n - kept)) 0) b ≡ closedUp n (filter isResting (leftIn n shown hidden s)) s
+    pub passed-done : replaced (40 * kept) (replicate (40 * (n - kept)) 0) b ≡ closedUp n (filter isResting (leftIn n shown hidden s)) s
     passed-done =
         let rs = flatMap (encodeOrder form) (rests s n shown hidden i) in
-        let new = replicate {A = ℕ} (32 * (n - kept)) 0 in
-        let m : length new ≡ 32 * (n - kept) = length-replicate (32 * (n - kept)) 0 in
-        let f = filled-more (p .bytes) new (32 * n) (omega (arith, front-long, p .few)) (omega arith) (omega (arith, p .begun .room)) front-long in
-        let l : length (rs ++ new) ≡ 32 * n = length-append rs new ∙ omega (arith, front-long, p .few) in
+        let new = replicate {A = ℕ} (40 * (n - kept)) 0 in
+        let m : length new ≡ 40 * (n - kept) = length-replicate (40 * (n - kept)) 0 in
+        let f = filled-more (p .bytes) new (40 * n) (omega (arith, front-long, p .few)) (omega arith) (omega (arith, p .begun .room)) front-long in
+        let l : length (rs ++ new) ≡ 40 * n = length-append rs new ∙ omega (arith, front-long, p .few) in
         filled-done f l
-        ∙ append-assoc rs new (drop (32 * n) s)
-        ∙ ap (λ k. rs ++ (replicate {A = ℕ} (32 * (n - k)) 0 ++ drop (32 * n) s)) (p .count)
+        ∙ append-assoc rs new (drop (40 * n) s)
+        ∙ ap (λ k. rs ++ (replicate {A = ℕ} (40 * (n - k)) 0 ++ drop (40 * n) s)) (p .count)
         ∙ ap (λ os. closedUp n (filter isResting os) s) left-all

@@ -7,9 +7,9 @@ use native.Mathlib.Omega.{arith}
 use lib.ListN.{take, drop, replicate}
 use Rattle.units.specs.Lists.{all, flatMap, sameNumbers}
 use Rattle.orders.specs.declared.order.Side.the-variants.{Sell}
-use Rattle.orders.specs.declared.order.Kind.the-variants.{Displayed}
+use Rattle.orders.specs.declared.order.Kind.the-variants.{Displayed, Reserve}
 use Rattle.orders.specs.declared.order.Order.{Order}
-use Rattle.orders.specs.Order.{sizeOf, withInterest, settled}
+use Rattle.orders.specs.Order.{sizeOf, interest, withInterest, settled}
 use Rattle.record.specs.Codec.{encode, decode}
 use Rattle.record.specs.Record.{numbersOf, orderOf, numbersSound}
 use Rattle.book.specs.Sound.{bookOf}
@@ -65,6 +65,25 @@ gaps-worked : sameNumbers
 unfolding here gone order
 gaps-worked = refl
 
+-- where one that shows 100 and hides 250 loses the 100 it is shown anew and rests: behind a gap it moves, and it makes none
+reserve : ℕ → Order
+reserve number = record {
+  side = Sell;
+  kind = Reserve (record { 0 = 250 }) (record { 0 = 100 });
+  number = number;
+  price = record { 0 = 100000 };
+  size = record { 0 = 100 };
+  setter = false;
+}
+
+refreshed-worked : sameNumbers
+    (movesOf (gone 1 ∷ settled (interest 100 0) (reserve 2) ∷ []) ∷
+    movesOf (settled (interest 100 0) (reserve 1) ∷ here 2 ∷ []) ∷
+    movesOf (settled (interest 100 250) (reserve 1) ∷ here 2 ∷ []) ∷ [])
+    (1 ∷ 0 ∷ 1 ∷ []) ≡ true
+unfolding reserve here gone order settled withInterest
+refreshed-worked = refl
+
 -- 256 orders, by turns
 turns : Order → Order → List Order
 turns a b = flatMap {A = ℕ} (λ k. a ∷ b ∷ []) (replicate 128 0)
@@ -103,24 +122,24 @@ shares os = map sizeOf os
 losing : List Bool
 losing =
     -- what the record at a byte loses: its displayed shares
-    sameNumbers (numbersOf (leftAt two 32 50 10)) (numbersOf (order 9 150)) ∷
+    sameNumbers (numbersOf (leftAt two 40 50 10)) (numbersOf (order 9 150)) ∷
     -- the first n orders, each by its own loss
     sameNumbers (shares (leftIn 2 (100 ∷ 200 ∷ 5 ∷ []) (1 ∷ 1 ∷ 1 ∷ []) two)) (200 ∷ 0 ∷ []) ∷
     sameNumbers (shares (leftIn 1 (100 ∷ 200 ∷ []) (0 ∷ 0 ∷ []) two)) (200 ∷ []) ∷
     -- of two records one is left, zeros come in behind it, and a byte behind both is as it was
     sameNumbers (closedUp 2 (order 9 150 ∷ []) (two ++ (7 ∷ []))) (bookOf 3 (order 9 150 ∷ []) ++ (7 ∷ [])) ∷
-    sameNumbers (closedUp 1 [] two) (replicate 32 0 ++ drop 32 two) ∷ []
+    sameNumbers (closedUp 1 [] two) (replicate 40 0 ++ drop 40 two) ∷ []
 
 losing-worked : all (λ b. b) losing ≡ true
 unfolding losing shares two order bookOf encode decode numbersOf orderOf settled withInterest
 losing-worked = refl
 
--- from byte 32 on lies a sound record; from byte 64 on none, nor from byte 31
-record-there : RecordAt two 32
+-- from byte 40 on lies a sound record; from byte 80 on none, nor from byte 39
+record-there : RecordAt two 40
 unfolding two order bookOf encode decode numbersOf numbersSound
 record-there = (omega arith, refl)
 
-no-record : (RecordAt two 64 → ⊥) × (RecordAt two 31 → ⊥) × (RecordAt (take 63 two) 32 → ⊥)
+no-record : (RecordAt two 80 → ⊥) × (RecordAt two 39 → ⊥) × (RecordAt (take 79 two) 40 → ⊥)
 unfolding two order bookOf encode decode numbersOf numbersSound
 no-record = ((λ h. false≢true (h .1)), (λ h. false≢true (h .1)), λ h. omega (arith, h .0))
 
@@ -130,7 +149,7 @@ unfolding two order bookOf encode decode numbersOf numbersSound
 records-there = record { room = omega arith; each = refl; shown-each = omega arith; hidden-each = omega arith }
 
 no-records : (Records two 3 (0 ∷ 5 ∷ 0 ∷ []) (0 ∷ 5 ∷ 0 ∷ []) → ⊥)
-    × (Records (take 63 two) 2 (0 ∷ 5 ∷ []) (0 ∷ 5 ∷ []) → ⊥)
+    × (Records (take 79 two) 2 (0 ∷ 5 ∷ []) (0 ∷ 5 ∷ []) → ⊥)
     × (Records two 2 (0 ∷ []) (0 ∷ 5 ∷ []) → ⊥)
     × (Records two 2 (0 ∷ 5 ∷ []) (0 ∷ []) → ⊥)
 unfolding two order bookOf encode decode numbersOf numbersSound

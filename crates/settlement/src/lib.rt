@@ -20,20 +20,22 @@ ghost use Rattle.parts.specs.Key.{placeIn};
 ghost use Rattle.parts.specs.Execution.{executionOf};
 
 // A take is made as it was decided: the executions of its fills go into a buffer, from its start, and each of the n orders loses what is
-// allotted to it. Where there is no room for the executions it is refused, and no byte changes.
+// allotted to it of its displayed and of its other shares. Where there is no room for the executions it is refused, and no byte changes.
 pub fn commit(
     book: &mut [u8],
     executions: &mut [u8],
     n: usize,
     fills: &[u64],
-    allotment: &[u32],
+    shown: &[u32],
+    hidden: &[u32],
     left: Shares,
 ) -> Taken
     requires { ⌜ (sound (now book) ≡ true)
         × (n ≡ length (ordersOf (now book)))
         × Every (λ k. placeIn k < length (ordersOf (now book))) (now fills)
         × (length (now fills) ≤ 512)
-        × (n ≤ length (now allotment)) ⌝ }
+        × (n ≤ length (now shown))
+        × (n ≤ length (now hidden)) ⌝ }
     ensures refused { λ r. ⌜ (length (now (executions .entry)) < 16 * length (now (fills .entry))
         → (r ≡ record { refusal = 8; count = 0; left = 0 })
         × (now (book .exit) ≡ now (book .entry))
@@ -41,7 +43,7 @@ pub fn commit(
     ensures made { λ r. ⌜ (16 * length (now (fills .entry)) ≤ length (now (executions .entry))
         → (r ≡ record { refusal = 0; count = length (now (fills .entry)); left = left .0 })
         × (now (book .exit)
-        ≡ bookOf (capacityOf (now (book .entry))) (filter isResting (zipWith settled (lossesIn n (now (allotment .entry)) (now (allotment .entry))) (ordersOf (now (book .entry))))))
+        ≡ bookOf (capacityOf (now (book .entry))) (filter isResting (zipWith settled (lossesIn n (now (shown .entry)) (now (hidden .entry))) (ordersOf (now (book .entry))))))
         × (now (executions .exit) ≡ written (map (executionOf (orderAt (now (book .entry)))) (now (fills .entry))) (now (executions .entry)))) ⌝ }
 {
     let count = fills.len();
@@ -53,7 +55,7 @@ pub fn commit(
         };
     }
     executions::write(book, fills, executions);
-    settling::settle(book, n, allotment, allotment);
+    settling::settle(book, n, shown, hidden);
     Taken {
         refusal: 0,
         count: count as u32,

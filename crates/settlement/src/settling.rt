@@ -2,6 +2,7 @@
 use book::records;
 use book::records::RECORD_BYTES;
 use record::bytes;
+use record::order_record;
 use units::Shares;
 ghost use mathlib.Core.Path.{_≡_};
 ghost use mathlib.Core.Bool.{true, false, _||_};
@@ -30,14 +31,14 @@ fn stays(book: &[u8], at: usize, shown: Shares, hidden: Shares) -> bool
     ensures { λ r. ⌜ r ≡ isResting (leftAt (now (book .entry)) at (shown .0) (hidden .0)) ⌝ }
 {
     if any_lost(shown, hidden) {
-        return records::order_at(book, at).rests_after(shown, hidden);
+        return order_record::rests_after(records::numbers_at(book, at), shown, hidden);
     }
     true
 }
 
 // The order of one record, without the shares that it lost, is written to another, or to its own.
 fn rewrite(book: &mut [u8], from: usize, to: usize, shown: Shares, hidden: Shares)
-    requires { ⌜ (from + 32 ≤ length (now book)) × (to + 32 ≤ length (now book)) ⌝ }
+    requires { ⌜ (from + 40 ≤ length (now book)) × (to + 40 ≤ length (now book)) ⌝ }
     ensures { λ _. ⌜ now (book .exit) ≡ replaced to (encodeOrder form (leftAt (now (book .entry)) from (shown .0) (hidden .0))) (now (book .entry)) ⌝ }
 {
     let order = records::order_at(book, from);
@@ -56,7 +57,7 @@ fn lose(book: &mut [u8], at: usize, shown: Shares, hidden: Shares)
 
 // A sound record moves to another place, and its order loses shares on the way.
 fn move_up(book: &mut [u8], from: usize, to: usize, shown: Shares, hidden: Shares)
-    requires { ⌜ RecordAt (now book) from × (to + 32 ≤ length (now book)) ⌝ }
+    requires { ⌜ RecordAt (now book) from × (to + 40 ≤ length (now book)) ⌝ }
     ensures { λ _. ⌜ now (book .exit) ≡ replaced to (encodeOrder form (leftAt (now (book .entry)) from (shown .0) (hidden .0))) (now (book .entry)) ⌝ }
 {
     if any_lost(shown, hidden) {

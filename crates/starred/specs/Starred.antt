@@ -43,6 +43,8 @@ sell kind number price size minimum = record {
   price = price;
   size = size;
   minimum = minimum;
+  hidden = 0;
+  refresh = 0;
 }
 
 request : ℕ → Resting → AddRequest

@@ -9,7 +9,7 @@ use lib.ListN.{length, take}
 use lib.Seq.{length-take-le}
 use borrow.Author.Tests.{ltb-true, ltb-false}
 use Rattle.units.specs.Lists.{filter, zipWith}
-use Rattle.orders.specs.Order.{settled, isResting}
+use Rattle.orders.specs.Order.{shown, hidden, settled, isResting}
 use Rattle.orders.specs.Losses.{lossesIn}
 use Rattle.book.specs.Sound.{sound, ordersOf, orderAt, bookOf, capacityOf}
 use Rattle.matching.specs.declared.Taken.{Taken}
@@ -32,7 +32,7 @@ module _ (q : TakeRequest) (s x : List ℕ) (e : requestInRange q ≡ true) (f :
       → (length x < 16 * length fills → (r ≡ record { refusal = 8; count = 0; left = 0 }) × (b ≡ s) × (y ≡ x))
       → (16 * length fills ≤ length x
       → (r ≡ record { refusal = 0; count = length fills; left = leftIn end })
-      × (b ≡ bookOf (capacityOf s) (filter isResting (zipWith settled (lossesIn n (end .allotment) (end .allotment)) (ordersOf s))))
+      × (b ≡ bookOf (capacityOf s) (filter isResting (zipWith settled (lossesIn n (end .allotment shown) (end .allotment hidden)) (ordersOf s))))
       × (y ≡ written (map (executionOf (orderAt s)) fills) x))
       → Answers q s x r b y
   committed {n} {r} {b} {y} c short made = go (ltb (length x) (16 * length fills)) refl

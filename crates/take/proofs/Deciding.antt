@@ -1,5 +1,5 @@
 -- What was allocated is the outcome: its executions, the shares left, and the orders afterwards.
-use Prim.Native.Nat.{ℕ, _≤_, _<_}
+use Prim.Native.Nat.{ℕ, _-_, _≤_, _<_}
 use mathlib.Core.Path.{_≡_, sym, ap, _∙_}
 use mathlib.Core.Bool.{Bool, true, false, _&&_}
 use mathlib.Core.List.{List, [], _∷_, map}
@@ -13,7 +13,7 @@ use Rattle.units.proofs.Members.{Every, every-weaken}
 use Rattle.units.proofs.Tests.{and-true}
 use Rattle.units.specs.declared.Shares.{Shares}
 use Rattle.orders.specs.declared.order.Order.{Order}
-use Rattle.orders.specs.Order.{settled, isResting, priceInRange, sharesInRange}
+use Rattle.orders.specs.Order.{Visibility, shown, hidden, settled, isResting, priceInRange, sharesInRange}
 use Rattle.orders.specs.Losses.{lossesIn}
 use Rattle.book.specs.Sound.{sound, ordersOf, orderAt}
 use Rattle.book.proofs.Soundness.{OrdersSound, orders-sound}
@@ -28,13 +28,15 @@ use Rattle.parts.specs.Key.{placeIn, withShares}
 use Rattle.parts.proofs.Keys.{with-place}
 use Rattle.parts.specs.Arranged.{Arranged}
 use Rattle.parts.specs.Execution.{executionOf}
-use Rattle.allocation.specs.Walk.{Walks, fillsOf}
-use Rattle.allocation.specs.Credit.{Ledger, ledger, leftIn, Room}
+use Rattle.allocation.specs.Walk.{Walks, fillsOf, gotAt}
+use Rattle.allocation.specs.Stretch.{Ends}
+use Rattle.allocation.specs.Credit.{seen, Ledger, ledger, leftIn, Room}
 use Rattle.allocation.specs.Sharing.{Book, Walked}
 use Rattle.allocation.proofs.Arranging.{arranged-ready}
 use Rattle.allocation.proofs.Crediting.{fills-few}
 use Rattle.allocation.proofs.Dividing.{book-beside}
 use Rattle.allocation.proofs.Enough.{walk-within}
+use Rattle.allocation.proofs.Way.{group-few}
 use Rattle.allocation.proofs.Outcome.{walk-executions, walk-uses, walk-losses}
 
 -- a size in range is no more than the most
@@ -56,7 +58,7 @@ pub record Decided (q : TakeRequest) (s : List ℕ) (end : Ledger) : Type 0 wher
       ≡ written (outcomeOf q (ordersOf s) .executions) x
   pub left : leftIn end ≡ outcomeOf q (ordersOf s) .left
   pub orders : (n : ℕ) → n ≡ length (ordersOf s)
-      → filter isResting (zipWith settled (lossesIn n (end .allotment) (end .allotment)) (ordersOf s)) ≡ outcomeOf q (ordersOf s) .orders
+      → filter isResting (zipWith settled (lossesIn n (end .allotment shown) (end .allotment hidden)) (ordersOf s)) ≡ outcomeOf q (ordersOf s) .orders
 
 -- a fill is of the record that its key is of
 fills-within : (m : ℕ) (keys gets : List ℕ) → Every (λ k. placeIn k < m) keys → sum gets < 1048576 → Every (λ k. placeIn k < m) (fillsOf keys gets)
@@ -107,17 +109,23 @@ module _ (q : TakeRequest) (s : List ℕ) (e : requestInRange q ≡ true) (f : s
     pub arranged-book : Book s (lot .0) algorithm (order .taker .side) keys
     arranged-book = rw (x, y, v) book
 
-    pub arranged-room : {fills allotment : List ℕ} → length keys ≤ length fills → length os ≤ length allotment → ((j : ℕ) → getD allotment j 0 ≡ 0)
-        → Room keys (ledger (record { incoming = order; count = 0 }) fills allotment)
+    pub arranged-room : {fills ss hs : List ℕ} → length keys ≤ length fills → ((v : Visibility) → length os ≤ length (seen v ss hs))
+        → ((v : Visibility) (j : ℕ) → getD (seen v ss hs) j 0 ≡ 0) → Room keys (ledger (record { incoming = order; count = 0 }) fills ss hs)
     arranged-room h k z = record {
       fills = omega arith;
-      places = every-weaken (λ j p. omega (arith, p .within)) keys (book .ready .each);
-      bounded = λ j. omega (arith, z j, ap (λ (o : Incoming). o .size .0) x, size-most q e);
+      places = λ v. every-weaken (λ j p. omega (arith, k v, p .within)) keys (book .ready .each);
+      bounded = λ v j. omega (arith, z v j, ap (λ (o : Incoming). o .size .0) x, size-most q e);
     }
 
+    -- no group of them is larger than the book
+    pub arranged-groups : (from end : ℕ) → Ends keys from end → end - from ≤ length os
+    arranged-groups from end g =
+        group-few s keys roundLot alg (i .taker) (ledger (record { incoming = i; count = 0 }) [] [] []) book g
+
     -- What the walk came to.
-    module _ {fills allotment : List ℕ} {end : Ledger} (z : (j : ℕ) → getD allotment j 0 ≡ 0) (r : length os ≤ length (end .allotment))
-        (walked : Walked s keys (lot .0) algorithm (ledger (record { incoming = order; count = 0 }) fills allotment) end) where
+    module _ {fills ss hs : List ℕ} {end : Ledger} (z : (v : Visibility) (j : ℕ) → getD (seen v ss hs) j 0 ≡ 0)
+        (r : (v : Visibility) → length os ≤ length (end .allotment v))
+        (walked : Walked s keys (lot .0) algorithm (ledger (record { incoming = order; count = 0 }) fills ss hs) end) where
       abbrev out : Outcome
       out = outcomeOf q os
 
@@ -168,13 +176,19 @@ module _ (q : TakeRequest) (s : List ℕ) (e : requestInRange q ≡ true) (f : s
           )
 
       -- so are the orders that still rest
-      decided-orders : (m : ℕ) → m ≡ length os → filter isResting (zipWith settled (lossesIn m (end .allotment) (end .allotment)) os) ≡ out .orders
+      decided-orders : (m : ℕ) → m ≡ length os → filter isResting (zipWith settled (lossesIn m (end .allotment shown) (end .allotment hidden)) os) ≡ out .orders
       unfolding outcomeOf outcome
       decided-orders m c =
-          ap (λ k. filter isResting (zipWith settled (lossesIn k (end .allotment) (end .allotment)) os)) c
-          ∙ ap (filter isResting)
-          (sym (walk-losses roundLot (omega arith) alg i (orderAt s) os fine few (book-beside s) a walks (end .allotment) r
-          (λ j h. omega (arith, walked .credited .allotment j, z j))))
+          ap (λ k. filter isResting (zipWith settled (lossesIn k (end .allotment shown) (end .allotment hidden)) os)) c
+          ∙ ap (λ ls. filter isResting (zipWith settled ls os))
+          (sym (walk-losses roundLot (omega arith) alg i (orderAt s) os fine few (book-beside s) a walks (end .allotment shown) (end .allotment hidden) (r shown) (r hidden) got))
+        where
+          credit : (v : Visibility) (j : ℕ) → getD (end .allotment v) j 0 ≡ gotAt alg v j keys gets
+          credit v j = omega (arith, walked .credited .allotment v j, z v j, ap (λ x. gotAt x v j keys gets) y)
+
+          got : (v : Visibility) (j : ℕ) → j < length os → getD (seen v (end .allotment shown) (end .allotment hidden)) j 0 ≡ gotAt alg v j keys gets
+          got shown j h = credit shown j
+          got hidden j h = credit hidden j
 
       -- each is of an order of the book
       decided-places : Every (λ k. placeIn k < length os) (take (end .progress .count) (end .fills))

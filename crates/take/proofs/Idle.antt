@@ -1,21 +1,20 @@
 -- A take that no part may trade with leaves all its shares and both buffers as they are.
-use Prim.Native.Nat.{ℕ, zero, suc}
+use Prim.Native.Nat.{ℕ, zero, suc, _≤_}
 use mathlib.Core.Path.{_≡_, refl, sym, ap, _∙_}
 use mathlib.Core.Bool.{true}
 use mathlib.Core.List.{List, [], _∷_}
 use native.Mathlib.Omega.{arith}
-use lib.ListN.{length, replicate, length-replicate}
-use borrow.Author.Tests.{lt-ltb}
+use lib.ListN.{length, getD, replicate, length-replicate}
 use Rattle.units.specs.Lists.{filter, zipWith}
 use Rattle.units.specs.Lots.{roundLot}
 use Rattle.units.proofs.Members.{Every}
 use Rattle.units.specs.declared.Shares.{Shares}
 use Rattle.orders.specs.declared.order.Order.{Order}
-use Rattle.orders.specs.Order.{settled, isResting}
+use Rattle.orders.specs.Order.{Visibility, shown, hidden, settled, isResting}
 use Rattle.orders.specs.Losses.{lossesIn}
 use Rattle.record.proofs.Numbers.{AreBytes}
-use Rattle.record.proofs.Settling.{settled-nothing}
-use Rattle.record.proofs.Orders.{OrderSound, order-facts}
+use Rattle.record.proofs.Settling.{settled-nothing, sound-rests}
+use Rattle.record.proofs.Orders.{OrderSound}
 use Rattle.book.specs.Sound.{sound, ordersOf, bookOf, capacityOf}
 use Rattle.book.proofs.Soundness.{orders-sound}
 use Rattle.book.proofs.Restoring.{book-orders}
@@ -39,7 +38,7 @@ nothing-lost : (n : ℕ) (os : List Order) → Every OrderSound os → n ≡ len
 nothing-lost n [] h e = rw e
 nothing-lost zero (o ∷ os) h e = absurd (omega arith)
 nothing-lost (suc n) (o ∷ os) h e =
-    rw (settled-nothing o (h .0), lt-ltb 0 (o .size .0) (order-facts o (h .0) .size-least)) (ap (λ l. o ∷ l) (nothing-lost n os (h .1) (omega arith)))
+    rw (settled-nothing o (h .0), sound-rests o (h .0)) (ap (λ l. o ∷ l) (nothing-lost n os (h .1) (omega arith)))
 
 -- no executions are no bytes
 none-written : (x : List ℕ) → written [] x ≡ x
@@ -54,13 +53,20 @@ module _ (q : TakeRequest) (s x : List ℕ) (e : requestInRange q ≡ true) (f :
       (v : lot .0 ≡ roundLot) {keys : List ℕ} (arranged : Arranged (lot .0) algorithm order os keys) where
     -- nothing is executed, and nothing allotted
     abbrev start : Ledger
-    start = ledger (record { incoming = order; count = 0 }) [] (replicate (length os) 0)
+    start = ledger (record { incoming = order; count = 0 }) [] (replicate (length os) 0) (replicate (length os) 0)
 
     idle-decided : keys ≡ [] → Decided q s start
     idle-decided z =
-        decided q s e f u y v arranged (omega (arith, ap length z)) {fills = []} {allotment = replicate (length os) 0} {end = start}
-        (zeros-all (length os)) (omega (arith, length-replicate {A = ℕ} (length os) 0))
+        decided q s e f u y v arranged (omega (arith, ap length z)) {fills = []} {ss = replicate (length os) 0} {hs = replicate (length os) 0} {end = start} nothing long
         (record { gets = []; walks = rw z (Walks.none _); credited = rw z (credited-none start) })
+      where
+        nothing : (v : Visibility) (j : ℕ) → getD (start .allotment v) j 0 ≡ 0
+        nothing shown j = zeros-all (length os) j
+        nothing hidden j = zeros-all (length os) j
+
+        long : (v : Visibility) → length os ≤ length (start .allotment v)
+        long shown = omega (arith, length-replicate {A = ℕ} (length os) 0)
+        long hidden = omega (arith, length-replicate {A = ℕ} (length os) 0)
 
     pub idle : keys ≡ [] → Answers q s x (record { refusal = 0; count = 0; left = q .size }) s x
     idle z =

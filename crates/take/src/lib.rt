@@ -54,7 +54,7 @@ pub fn refused(refusal: u32) -> Taken
 }
 
 // An accepted take in memory that is lent: decided first, from a book that is only read, then written. Keys, spare and columns may hold
-// anything; the allotment says of each record that it has got nothing yet.
+// anything; the allotments, of displayed and of other shares, say of each record that it has got nothing yet.
 fn take_in(
     book: &mut [u8],
     executions: &mut [u8],
@@ -65,9 +65,10 @@ fn take_in(
     sizes: &mut [u32],
     minimums: &mut [u32],
     gets: &mut [u32],
-    allotment: &mut [u32],
+    shown: &mut [u32],
+    hidden: &mut [u32],
 ) -> Taken
-    requires { ⌜ Sound request (now book) n × Memory n (now keys) (now spare) (now sizes) (now minimums) (now gets) (now allotment) ⌝ }
+    requires { ⌜ Sound request (now book) n × Memory n (now keys) (now spare) (now sizes) (now minimums) (now gets) (now shown) (now hidden) ⌝ }
     ensures { λ r. ⌜ Answers request (now (book .entry)) (now (executions .entry)) r (now (book .exit)) (now (executions .exit)) ⌝ }
 {
     let incoming = incoming_of(request);
@@ -91,7 +92,8 @@ fn take_in(
         minimums,
         gets,
         spare,
-        allotment,
+        shown,
+        hidden,
     );
     let order = reached.incoming;
     settlement::commit(
@@ -99,7 +101,8 @@ fn take_in(
         executions,
         n,
         &spare[..reached.count],
-        allotment,
+        shown,
+        hidden,
         order.size,
     )
 }
@@ -135,7 +138,8 @@ fn small(book: &mut [u8], executions: &mut [u8], n: usize, request: TakeRequest)
     let mut sizes = few_shares();
     let mut minimums = few_shares();
     let mut gets = few_shares();
-    let mut allotment = few_shares();
+    let mut shown = few_shares();
+    let mut hidden = few_shares();
     take_in(
         book,
         executions,
@@ -146,7 +150,8 @@ fn small(book: &mut [u8], executions: &mut [u8], n: usize, request: TakeRequest)
         &mut sizes,
         &mut minimums,
         &mut gets,
-        &mut allotment,
+        &mut shown,
+        &mut hidden,
     )
 }
 
@@ -160,7 +165,8 @@ fn large(book: &mut [u8], executions: &mut [u8], n: usize, request: TakeRequest)
     let mut sizes = all_shares();
     let mut minimums = all_shares();
     let mut gets = all_shares();
-    let mut allotment = all_shares();
+    let mut shown = all_shares();
+    let mut hidden = all_shares();
     take_in(
         book,
         executions,
@@ -171,7 +177,8 @@ fn large(book: &mut [u8], executions: &mut [u8], n: usize, request: TakeRequest)
         &mut sizes,
         &mut minimums,
         &mut gets,
-        &mut allotment,
+        &mut shown,
+        &mut hidden,
     )
 }
 

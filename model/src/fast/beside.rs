@@ -3,7 +3,6 @@
 use super::fill::Fill;
 use super::ladder::{self, is_ladder_of, Row, RowBytes};
 use super::record::{Bytes, Record};
-use crate::book::Order;
 use crate::{Refusal, LADDER_LENGTH};
 
 /// Kept beside a book while a call changes it.
@@ -11,11 +10,13 @@ pub trait Beside {
     /// Whether it is what belongs beside a book of these orders.
     fn fits(&mut self, records: &[Bytes]) -> Result<(), Refusal>;
     /// An order is put in the book.
-    fn added(&mut self, order: &Order);
-    /// An order is to lose shares.
-    fn lessened(&mut self, record: Record, shares: u32);
-    /// Orders are to lose the shares of these fills, which come by price.
-    fn executed(&mut self, records: &[Bytes], fills: &[Fill]);
+    fn added(&mut self, record: Record);
+    /// An order is to lose shares of its size, and hidden ones.
+    fn lessened(&mut self, record: Record, shares: u32, hidden: u32);
+    /// Orders have lost the shares of these fills, which come by price; those that
+    /// are used up stand in their places still, without having been refreshed. The
+    /// number is the first paragraph that isn't displayed.
+    fn executed(&mut self, records: &[Bytes], fills: &[Fill], not_displayed: u8);
 }
 
 /// For a plain call.
@@ -26,11 +27,11 @@ impl Beside for Nothing {
         Ok(())
     }
 
-    fn added(&mut self, _: &Order) {}
+    fn added(&mut self, _: Record) {}
 
-    fn lessened(&mut self, _: Record, _: u32) {}
+    fn lessened(&mut self, _: Record, _: u32, _: u32) {}
 
-    fn executed(&mut self, _: &[Bytes], _: &[Fill]) {}
+    fn executed(&mut self, _: &[Bytes], _: &[Fill], _: u8) {}
 }
 
 /// A lent ladder.
@@ -66,8 +67,7 @@ impl Beside for Ladder<'_> {
         Ok(())
     }
 
-    fn added(&mut self, order: &Order) {
-        let record = Record::of(&order.record());
+    fn added(&mut self, record: Record) {
         match self.search(ladder::rank(record)) {
             Ok(place) => {
                 let row = &mut self.rows()[place];
@@ -82,13 +82,18 @@ impl Beside for Ladder<'_> {
         }
     }
 
-    fn lessened(&mut self, record: Record, shares: u32) {
+    fn lessened(&mut self, record: Record, shares: u32, hidden: u32) {
         let Ok(place) = self.search(ladder::rank(record)) else {
             return;
         };
         let used = self.used;
         let rows = self.rows();
-        let row = Row::read(&rows[place]).without(record, shares);
+        let mut row = Row::read(&rows[place])
+            .without(shares, record.is_displayed())
+            .without(hidden, false);
+        if shares == record.size() {
+            row = row.without_order();
+        }
         rows[place] = row.bytes();
         if row.is_empty() {
             rows.copy_within(place + 1..used, place);
@@ -96,7 +101,7 @@ impl Beside for Ladder<'_> {
         }
     }
 
-    fn executed(&mut self, records: &[Bytes], fills: &[Fill]) {
+    fn executed(&mut self, records: &[Bytes], fills: &[Fill], not_displayed: u8) {
         let Some(first) = fills.first() else {
             return;
         };
@@ -115,7 +120,15 @@ impl Beside for Ladder<'_> {
             while ladder::rank_of(&rows[place]) != rank {
                 place += 1;
             }
-            let row = Row::read(&rows[place]).without(record, fill.shares());
+            let displayed = fill.paragraph() < not_displayed;
+            let mut row = Row::read(&rows[place]).without(fill.shares(), displayed);
+            // An order's size has one fill, whatever its hidden shares have.
+            if record.size() == 0 && displayed == record.is_displayed() {
+                match record.refreshed() {
+                    0 => row = row.without_order(),
+                    shown => row = row.with_shown(shown),
+                }
+            }
             rows[place] = row.bytes();
             emptied += usize::from(row.is_empty());
         }

@@ -25,21 +25,12 @@ pub fn find(book: &[u8], number: u32) -> (u32, usize, usize) {
 }
 
 /// Puts an order last. Gives the refusal number.
-pub fn add(
-    book: &mut [u8],
-    side: u32,
-    kind: u32,
-    number: u32,
-    price: u32,
-    size: u32,
-    minimum: u32,
-) -> u32 {
-    let order = [side, kind, number, price, size, minimum];
+pub fn add(book: &mut [u8], order: [u32; 8]) -> u32 {
     refusal_of(enter(book, order, Nothing))
 }
 
 /// Add that keeps the ladder.
-pub fn add_ladder(book: &mut [u8], ladder: &mut [u8], order: [u32; 6]) -> u32 {
+pub fn add_ladder(book: &mut [u8], ladder: &mut [u8], order: [u32; 8]) -> u32 {
     refusal_of(enter(book, order, Ladder::of(ladder)))
 }
 
@@ -72,11 +63,9 @@ fn place_of(book: &[u8], number: u32, beside: &mut impl Beside) -> Result<(usize
     }
 }
 
-fn enter(book: &mut [u8], order: [u32; 6], mut beside: impl Beside) -> Result<(), Refusal> {
-    let [side, kind, number, price, size, minimum] = order;
-    let order = Order::of_numbers(side, kind, number, price, size, minimum);
-    let order = order.ok_or(Refusal::OutOfRange)?;
-    let taker = Taker::new(order.side, order.price, order.size);
+fn enter(book: &mut [u8], order: [u32; 8], mut beside: impl Beside) -> Result<(), Refusal> {
+    let order = Order::of_request(order).ok_or(Refusal::OutOfRange)?;
+    let taker = Taker::new(order.side, order.price, order.shares());
     let sound = sound(book)?;
     let orders: &[Bytes] = &book.as_chunks().0[..sound.orders];
     beside.fits(orders)?;
@@ -96,7 +85,7 @@ fn enter(book: &mut [u8], order: [u32; 6], mut beside: impl Beside) -> Result<()
     let free = records.get_mut(sound.orders).ok_or(Refusal::NoFreeRecord)?;
     let setter = order.is_displayed() && order.size >= ROUND_LOT && !rivalled;
     *free = Order { setter, ..order }.record();
-    beside.added(&order);
+    beside.added(Record::of(free));
     Ok(())
 }
 
@@ -111,11 +100,18 @@ fn lessen(
     }
     let (place, orders) = place_of(book, number, &mut beside)?;
     let records: &mut [Bytes] = book.as_chunks_mut().0;
-    if shares > record::size_of(&records[place]) {
+    let order = &mut records[place];
+    let hidden = record::hidden_of(order);
+    if shares > record::size_of(order) + hidden {
         return Err(Refusal::MoreThanOrderHas);
     }
-    beside.lessened(Record::of(&records[place]), shares);
-    if record::lessen(&mut records[place], shares) == 0 {
+    let from_hidden = shares.min(hidden);
+    let from_size = shares - from_hidden;
+    beside.lessened(Record::of(order), from_size, from_hidden);
+    if from_hidden > 0 {
+        record::lessen_hidden(order, from_hidden);
+    }
+    if record::lessen(order, from_size) == 0 {
         records.copy_within(place + 1..orders, place);
         records[orders - 1].fill(0);
     }

@@ -2,9 +2,9 @@
 
 use super::soundness::MOST_ORDERS;
 
-/// What an order gets, or may get, as one number that sorts by price (the best
-/// first), then paragraph, then order number: the rank of the price in 32 bits,
-/// the paragraph in 4, the record's place in 8, shares in 20.
+/// What a part of an order gets, or may get, as one number that sorts by price
+/// (the best first), then paragraph, then order number: the rank of the price in
+/// 32 bits, the paragraph in 4, the record's place in 8, shares in 20.
 #[derive(Clone, Copy, PartialEq, Eq, PartialOrd, Ord)]
 pub struct Fill(u64);
 
@@ -26,7 +26,7 @@ impl Fill {
         )
     }
 
-    /// Equal for the orders of a price and paragraph.
+    /// Equal for the parts of a price and paragraph.
     pub fn group(self) -> u64 {
         self.0 >> Fill::PARAGRAPH
     }

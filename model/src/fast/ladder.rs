@@ -1,7 +1,7 @@
 //! The rows of a ladder, and the call that makes a new one.
 
 use super::calls::refusal_of;
-use super::record::{Bytes, Record};
+use super::record::{hidden_of, Bytes, Record};
 use super::soundness::{all_zero, sound, MOST_ORDERS};
 use crate::book::Side;
 use crate::ladder::ROW_LENGTH;
@@ -76,18 +76,33 @@ impl Row {
     pub fn with(self, record: Record) -> Row {
         let [head, shares, count] = self.words;
         let more = in_column(record.size(), record.is_displayed());
+        let hidden = in_column(record.hidden(), false);
         Row {
-            words: [head, shares + more, count + 1],
+            words: [head, shares + more + hidden, count + 1],
         }
     }
 
-    /// With so many shares of an order less, and without it if these are all.
-    pub fn without(self, record: Record, shares: u32) -> Row {
+    /// With so many shares less in a column.
+    pub fn without(self, shares: u32, displayed: bool) -> Row {
         let [head, all, count] = self.words;
-        let less = in_column(shares, record.is_displayed());
-        let leaves = u64::from(shares == record.size());
         Row {
-            words: [head, all - less, count - leaves],
+            words: [head, all - in_column(shares, displayed), count],
+        }
+    }
+
+    /// With so many hidden shares shown.
+    pub fn with_shown(self, shares: u32) -> Row {
+        let [head, all, count] = self.without(shares, false).words;
+        Row {
+            words: [head, all + in_column(shares, true), count],
+        }
+    }
+
+    /// With an order less, which has no shares left.
+    pub fn without_order(self) -> Row {
+        let [head, shares, count] = self.words;
+        Row {
+            words: [head, shares, count - 1],
         }
     }
 
@@ -109,54 +124,61 @@ fn in_column(shares: u32, displayed: bool) -> u64 {
 }
 
 /// An order as it counts in its row, as one number that sorts as rows stand: the
-/// rank in 32 bits, the record's place in 8, whether it is displayed in 1, the
-/// size in 20.
+/// rank in 32 bits, the record's place in 8, whether it hides shares behind shown
+/// ones in 1, whether it is displayed in 1, the size in 20.
 #[derive(Clone, Copy, PartialEq, Eq, PartialOrd, Ord)]
-struct Part(u64);
+struct Counted(u64);
 
-impl Part {
-    const NONE: Part = Part(0);
+impl Counted {
+    const NONE: Counted = Counted(0);
 
     const DISPLAYED: u32 = 20;
-    const PLACE: u32 = 21;
+    const HIDES: u32 = 21;
+    const PLACE: u32 = 22;
     const RANK: u32 = 32;
 
-    fn of(place: usize, record: Record) -> Part {
-        Part(
-            u64::from(rank(record)) << Part::RANK
-                | (place as u64) << Part::PLACE
-                | u64::from(record.is_displayed()) << Part::DISPLAYED
+    fn of(place: usize, record: Record) -> Counted {
+        Counted(
+            u64::from(rank(record)) << Counted::RANK
+                | (place as u64) << Counted::PLACE
+                | u64::from(record.hidden() > 0) << Counted::HIDES
+                | u64::from(record.is_displayed()) << Counted::DISPLAYED
                 | u64::from(record.size()),
         )
     }
 
     fn rank(self) -> u32 {
-        (self.0 >> Part::RANK) as u32
+        (self.0 >> Counted::RANK) as u32
     }
 
     /// What it adds to its row's second number.
-    fn shares(self) -> u64 {
-        let size = self.0 as u32 & ((1 << Part::DISPLAYED) - 1);
-        in_column(size, self.0 >> Part::DISPLAYED & 1 == 1)
+    fn shares(self, records: &[Bytes]) -> u64 {
+        let size = self.0 as u32 & ((1 << Counted::DISPLAYED) - 1);
+        let shares = in_column(size, self.0 >> Counted::DISPLAYED & 1 == 1);
+        if self.0 >> Counted::HIDES & 1 == 0 {
+            return shares;
+        }
+        let place = (self.0 >> Counted::PLACE) as usize % MOST_ORDERS;
+        shares + in_column(hidden_of(&records[place]), false)
     }
 }
 
 /// Goes through the rows of these orders, in room for `ORDERS` of them.
 fn each_row<const ORDERS: usize>(records: &[Bytes], mut act: impl FnMut(Row)) {
-    let mut parts = [Part::NONE; ORDERS];
-    let parts = &mut parts[..records.len()];
-    for (place, (part, bytes)) in parts.iter_mut().zip(records).enumerate() {
-        *part = Part::of(place, Record::of(bytes));
+    let mut orders = [Counted::NONE; ORDERS];
+    let orders = &mut orders[..records.len()];
+    for (place, (order, bytes)) in orders.iter_mut().zip(records).enumerate() {
+        *order = Counted::of(place, Record::of(bytes));
     }
-    if !parts.is_sorted() {
-        parts.sort_unstable();
+    if !orders.is_sorted() {
+        orders.sort_unstable();
     }
-    let mut rest = &*parts;
+    let mut rest = &*orders;
     while let Some(first) = rest.first() {
         let mut row = Row::new(first.rank());
         let mut count = 0;
         while count < rest.len() && rest[count].rank() == first.rank() {
-            row.words[1] += rest[count].shares();
+            row.words[1] += rest[count].shares(records);
             count += 1;
         }
         row.words[2] = count as u64;

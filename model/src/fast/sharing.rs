@@ -4,10 +4,10 @@ use super::fill::Fill;
 use super::soundness::MOST_ORDERS;
 use crate::book::{LARGEST_SIZE, ROUND_LOT};
 
-/// The orders of a price and paragraph.
+/// The parts of orders of a price and paragraph, at most one of each order.
 pub struct Group<'a> {
-    /// In rising order number, each at first with its order's size as its shares.
-    /// Sharing puts in what each order gets.
+    /// In rising order number, each at first with its part's size as its shares.
+    /// Sharing puts in what each part gets.
     pub fills: &'a mut [Fill],
     /// The sizes together.
     pub total: u32,

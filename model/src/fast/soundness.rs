@@ -12,6 +12,8 @@ pub struct Sound {
     pub orders: usize,
     /// The number of the last order, 0 without one.
     pub last_number: u32,
+    /// Whether an order hides shares behind shown ones.
+    pub hides: bool,
 }
 
 /// Checks a book.
@@ -25,12 +27,18 @@ pub fn sound(book: &[u8]) -> Result<Sound, Refusal> {
     let mut sound = Sound {
         orders: 0,
         last_number: 0,
+        hides: false,
     };
     for bytes in records {
         if bytes[0] == 0 {
             break;
         }
-        let record = Record::of(bytes);
+        let mut record = Record::of(bytes);
+        if record.is_reserve() {
+            faults |= record.reserve_faults();
+            sound.hides |= record.hidden() > 0;
+            record = record.shown();
+        }
         faults |= record.faults(sound.last_number);
         if record.setter() != 0 {
             marks.note(record);

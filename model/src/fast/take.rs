@@ -2,13 +2,16 @@
 
 use super::beside::{Beside, Ladder, Nothing};
 use super::fill::{group_end, keep, Fill};
-use super::record::{Bytes, Record};
+use super::record::{Bytes, Record, NON_DISPLAYED};
 use super::settlement;
 use super::sharing::{self, Group, Scratch};
 use super::soundness::{sound, MOST_ORDERS};
 use super::taker::Taker;
 use crate::book::{self, Side, ROUND_LOT};
 use crate::{Refusal, EXECUTION_LENGTH};
+
+/// A shown and a hidden part of each order.
+const MOST_PARTS: usize = 2 * MOST_ORDERS;
 
 #[derive(Clone, Copy, PartialEq, Eq)]
 enum Algorithm {
@@ -28,11 +31,19 @@ impl Algorithm {
     }
 
     /// The paragraph in which an order has its turn, at twice its kind, and one
-    /// more if it has a round lot.
-    fn paragraphs(self) -> [u8; 8] {
+    /// more if it has a round lot; a reserve order with its shown part.
+    fn paragraphs(self) -> [u8; 16] {
         match self {
-            Algorithm::PriceTime => [0, 0, 2, 2, 3, 3, 3, 3],
-            _ => [0, 0, 3, 2, 6, 4, 5, 5],
+            Algorithm::PriceTime => [0, 0, 2, 2, 3, 3, 3, 3, 2, 2, 0, 0, 0, 0, 0, 0],
+            _ => [0, 0, 3, 2, 6, 4, 5, 5, 3, 2, 0, 0, 0, 0, 0, 0],
+        }
+    }
+
+    /// The first paragraph that isn't displayed.
+    fn not_displayed(self) -> u8 {
+        match self {
+            Algorithm::PriceTime => 3,
+            _ => 4,
         }
     }
 
@@ -95,29 +106,33 @@ fn execute(
         return Err(Refusal::OutOfRange);
     }
     let taker = Taker::new(side, limit, size);
-    let orders = sound(book)?.orders;
-    let records = &mut book.as_chunks_mut().0[..orders];
+    let sound = sound(book)?;
+    let records = &mut book.as_chunks_mut().0[..sound.orders];
     beside.fits(records)?;
+    let most_parts = sound.orders << usize::from(sound.hides);
     // Clearing room for a full book would cost more than a take of a few orders.
-    match orders {
+    match most_parts {
         0..=16 => execute_within::<16>(records, executions, taker, algorithm, beside),
         17..=64 => execute_within::<64>(records, executions, taker, algorithm, beside),
-        _ => execute_within::<MOST_ORDERS>(records, executions, taker, algorithm, beside),
+        65..=MOST_ORDERS => {
+            execute_within::<MOST_ORDERS>(records, executions, taker, algorithm, beside)
+        }
+        _ => execute_within::<MOST_PARTS>(records, executions, taker, algorithm, beside),
     }
 }
 
-/// Executes against not more orders than `ORDERS`.
-fn execute_within<const ORDERS: usize>(
+/// Executes against not more parts of orders than `PARTS`.
+fn execute_within<const PARTS: usize>(
     records: &mut [Bytes],
     executions: &mut [u8],
     taker: Taker,
     algorithm: Algorithm,
     mut beside: impl Beside,
 ) -> Outcome {
-    let mut fills = [Fill::NONE; ORDERS];
+    let mut fills = [Fill::NONE; PARTS];
     let scratch = Scratch {
-        turns: &mut [0; ORDERS],
-        allotment: &mut [0; ORDERS],
+        turns: &mut [0; PARTS],
+        allotment: &mut [0; PARTS],
     };
     let count = collect(&mut fills, records, taker, algorithm);
     let count = order(&mut fills[..count], taker.size, algorithm);
@@ -126,23 +141,34 @@ fn execute_within<const ORDERS: usize>(
     if count * EXECUTION_LENGTH > executions.len() {
         return Err(Refusal::ExecutionsDoNotFit);
     }
-    beside.executed(records, &fills[..count]);
-    if let Some(first) = settlement::execute(records, &fills[..count], executions) {
+    let fills = &fills[..count];
+    let not_displayed = algorithm.not_displayed();
+    let used_up = settlement::execute(records, fills, executions, not_displayed);
+    beside.executed(records, fills, not_displayed);
+    if let Some(first) = used_up {
         settlement::close_gaps(records, first);
     }
     Ok((count, left))
 }
 
-/// Collects the fills of the orders that the incoming one may trade with, each
-/// of its order's whole size. Gives their count.
+/// Collects the fills of the parts that the incoming order may trade with, each
+/// of its part's whole size. Gives their count.
 fn collect(fills: &mut [Fill], records: &[Bytes], taker: Taker, algorithm: Algorithm) -> usize {
     let paragraphs = algorithm.paragraphs();
     let mut count = 0;
     for (place, record) in records.iter().map(Record::of).enumerate() {
-        let column = 2 * record.kind() as usize + usize::from(record.size() >= ROUND_LOT);
-        let rank = taker.rank(record.price());
-        fills[count] = Fill::new(rank, paragraphs[column % 8], place, record.size());
-        count += usize::from(taker.may_trade_with(record));
+        let part = |kind: u32, size: u32| {
+            let column = 2 * kind as usize + usize::from(size >= ROUND_LOT);
+            let rank = taker.rank(record.price());
+            Fill::new(rank, paragraphs[column % 16], place, size)
+        };
+        let trades = usize::from(taker.may_trade_with(record));
+        fills[count] = part(record.kind(), record.size());
+        count += trades;
+        if record.hidden() > 0 {
+            fills[count] = part(NON_DISPLAYED, record.hidden());
+            count += trades;
+        }
     }
     count
 }
@@ -166,8 +192,8 @@ fn order(fills: &mut [Fill], shares: u32, algorithm: Algorithm) -> usize {
     fills.len()
 }
 
-/// Moves the fills of the orders that get shares to the front, each with what its
-/// order gets. Gives their count and the shares left.
+/// Moves the fills of the parts that get shares to the front, each with what its
+/// part gets. Gives their count and the shares left.
 fn allot(
     fills: &mut [Fill],
     records: &[Bytes],

@@ -24,7 +24,7 @@ fn an_order_has_these_bytes() {
     let mut market = Market::new(2);
     market.accept(SELL, 0x0102_0304, 2_000_000_000, "D 999999");
     let record = [
-        0x4F, 0x42, 2, 1, 4, 3, 2, 1, 0x00, 0x94, 0x35, 0x77, 0x3F, 0x42, 0x0F, 0, 0, 0, 0, 0, 1,
+        0x4F, 0x43, 2, 1, 4, 3, 2, 1, 0x00, 0x94, 0x35, 0x77, 0x3F, 0x42, 0x0F, 0, 0, 0, 0, 0, 1,
     ];
     assert_eq!(market.book[..21], record);
     assert!(market.book[21..].iter().all(|&byte| byte == 0));
@@ -35,7 +35,7 @@ fn a_sound_book_has_a_sound_length() {
     for records in [0, 1, 255, 256] {
         assert_eq!(check(&vec![0; records * RECORD_LENGTH]), (0, 0));
     }
-    for length in [1, 31, 33, 8_191, 8_193, 8_224, 16_384] {
+    for length in [1, 32, 39, 41, 64, 8_192, 10_239, 10_241, 10_280, 20_480] {
         assert_eq!(check(&vec![0; length]), (2, 0));
     }
 }
@@ -43,19 +43,29 @@ fn a_sound_book_has_a_sound_length() {
 #[test]
 fn each_byte_of_a_record_counts() {
     assert_eq!(check(&three_orders().book), (0, 3));
-    for (place, byte) in [(0, 0x4E), (1, 0), (2, 0), (2, 3), (3, 0), (3, 4), (4, 0)] {
+    for (place, byte) in [
+        (0, 0x4E),
+        (1, 0),
+        (1, 0x42),
+        (2, 0),
+        (2, 3),
+        (3, 0),
+        (3, 4),
+        (3, 5),
+        (4, 0),
+    ] {
         assert_eq!(check(&with_byte(place, byte)), (2, 0), "byte {place}");
     }
-    for place in [16, 19, 21, 31, 96, 127] {
+    for place in [16, 19, 21, 31, 32, 35, 36, 39, 120, 159] {
         assert_eq!(check(&with_byte(place, 1)), (2, 0), "byte {place}");
     }
     for (place, byte) in [
         (11, 0xFF),
         (14, 0xFF),
         (20, 2),
-        (64 + 20, 1),
-        (64 + 16, 0),
-        (64 + 16, 101),
+        (80 + 20, 1),
+        (80 + 16, 0),
+        (80 + 16, 101),
     ] {
         assert_eq!(check(&with_byte(place, byte)), (2, 0), "byte {place}");
     }
@@ -63,21 +73,21 @@ fn each_byte_of_a_record_counts() {
 
 #[test]
 fn numbers_rise_without_gaps_between_orders() {
-    assert_eq!(check(&with_byte(32 + 4, 1)), (2, 0));
-    assert_eq!(check(&with_byte(64 + 4, 4)), (2, 0));
+    assert_eq!(check(&with_byte(40 + 4, 1)), (2, 0));
+    assert_eq!(check(&with_byte(80 + 4, 4)), (2, 0));
     let mut book = three_orders().book;
-    book[32..64].fill(0);
+    book[40..80].fill(0);
     assert_eq!(check(&book), (2, 0));
 }
 
 #[test]
 fn a_price_has_one_setter_a_side() {
-    assert_eq!(check(&with_byte(32 + 20, 1)), (2, 0));
-    let mut other_price = with_byte(32 + 20, 1);
-    other_price[32 + 8] += 1;
+    assert_eq!(check(&with_byte(40 + 20, 1)), (2, 0));
+    let mut other_price = with_byte(40 + 20, 1);
+    other_price[40 + 8] += 1;
     assert_eq!(check(&other_price), (0, 3));
-    let mut other_side = with_byte(32 + 20, 1);
-    other_side[32 + 2] = 2;
+    let mut other_side = with_byte(40 + 20, 1);
+    other_side[40 + 2] = 2;
     assert_eq!(check(&other_side), (0, 3));
 }
 
@@ -107,24 +117,24 @@ fn reduce_lowers_the_minimum_and_frees_the_record() {
     assert_eq!(market.rests(9), (50, 40));
     assert_eq!(crate::reduce(&mut market.book, 9, 20), 0);
     assert_eq!(market.rests(9), (30, 30));
-    let last = market.book[64..96].to_vec();
+    let last = market.book[80..120].to_vec();
     assert_eq!(crate::reduce(&mut market.book, 1, 100), 0);
-    assert_eq!(market.book[32..64], last);
-    assert!(market.book[64..].iter().all(|&byte| byte == 0));
+    assert_eq!(market.book[40..80], last);
+    assert!(market.book[80..].iter().all(|&byte| byte == 0));
 }
 
 #[test]
 fn find_answers_with_the_orders_own_bytes() {
     let market = three_orders();
-    assert_eq!(crate::find(&market.book, 1), (0, 0, 32));
-    assert_eq!(crate::find(&market.book, 9), (0, 64, 32));
+    assert_eq!(crate::find(&market.book, 1), (0, 0, 40));
+    assert_eq!(crate::find(&market.book, 9), (0, 80, 40));
 }
 
 /// Soundness doesn't forbid it, though add can't make such a book.
 #[test]
 fn sides_may_overlap() {
     let mut market = three_orders();
-    market.book[64 + 8] -= 10;
+    market.book[80 + 8] -= 10;
     assert_eq!(check(&market.book), (0, 3));
     assert_eq!(market.take(SELL, 1, 150, 1).1, 0);
 }

@@ -12,7 +12,7 @@ pub struct Desk {
 
 #[derive(Clone, Copy, Debug)]
 pub enum Form {
-    Add([u32; 6]),
+    Add([u32; 8]),
     Reduce([u32; 2]),
     Take([u32; 4]),
 }
@@ -42,10 +42,7 @@ impl Form {
         let mut after = market.clone();
         let Market { book, executions } = &mut after;
         let numbers = match self {
-            Form::Add([side, kind, number, price, size, minimum]) => {
-                let refusal = crate::add(book, side, kind, number, price, size, minimum);
-                [refusal, 0, 0]
-            }
+            Form::Add(order) => [crate::add(book, order), 0, 0],
             Form::Reduce([number, shares]) => [crate::reduce(book, number, shares), 0, 0],
             Form::Take([side, limit, size, algorithm]) => {
                 let taken = crate::take(book, executions, side, limit, size, algorithm);
@@ -113,8 +110,7 @@ impl Desk {
 }
 
 pub fn add(side: u32, number: u32, price: u32, order: &str) -> Form {
-    let (kind, size, minimum) = described(order);
-    Form::Add([side, kind, number, price, size, minimum])
+    Form::Add(described(side, number, price, order))
 }
 
 /// Two sells at each of two prices, one displayed and one not, and a buy.

@@ -19,7 +19,7 @@ const FIVE_EXECUTED: [Execution; 5] = [
 ];
 
 /// An execution at the usual price.
-const fn at_price(paragraph: u8, number: u32, shares: u32) -> Execution {
+pub const fn at_price(paragraph: u8, number: u32, shares: u32) -> Execution {
     Execution {
         paragraph,
         number,

@@ -8,15 +8,15 @@ use crate::LADDER_LENGTH;
 /// A form of each sort that is accepted on a desk of two levels, and one
 /// that is refused there for each reason behind 10.
 const ACCEPTED: [Form; 4] = [
-    Form::Add([BUY, 1, 6, PRICE - 2, 100, 0]),
+    Form::Add([BUY, 1, 6, PRICE - 2, 100, 0, 0, 0]),
     Form::Reduce([1, 300]),
     Form::Take([BUY, PRICE + 1, 450, 2]),
     Form::Take([BUY, PRICE - 1, 450, 2]),
 ];
 const REFUSED: [(u32, Form); 4] = [
     (3, Form::Reduce([6, 1])),
-    (4, Form::Add([BUY, 1, 5, PRICE - 2, 100, 0])),
-    (5, Form::Add([BUY, 1, 6, PRICE, 100, 0])),
+    (4, Form::Add([BUY, 1, 5, PRICE - 2, 100, 0, 0, 0])),
+    (5, Form::Add([BUY, 1, 6, PRICE, 100, 0, 0, 0])),
     (7, Form::Reduce([1, 301])),
 ];
 
@@ -77,7 +77,7 @@ fn forms_are_refused_in_this_order() {
     let mut unsound = desk.clone();
     unsound.market.book[31] = 1;
     let out_of_range = [
-        Form::Add([BUY, 1, 0, PRICE, 100, 0]),
+        Form::Add([BUY, 1, 0, PRICE, 100, 0, 0, 0]),
         Form::Reduce([0, 1]),
         Form::Take([BUY, PRICE, 0, 2]),
     ];

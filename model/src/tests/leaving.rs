@@ -2,7 +2,7 @@
 
 use super::executions::TAKES;
 use super::{Market, BUY, PRICE, SELL};
-use crate::book;
+use crate::book::{self, RECORD_LENGTH};
 
 /// The size of the order at a place.
 fn size(place: u32) -> u32 {
@@ -46,7 +46,7 @@ fn every_second_leaves(first: u32, lost: u32, algorithm: u32) {
         let orders = book::read(&book).expect("a sound book");
         let resting: Vec<(u32, u32)> = orders.iter().map(|o| (o.number, o.size)).collect();
         assert_eq!(resting, rest);
-        assert!(book[128 * 32..].iter().all(|&byte| byte == 0));
+        assert!(book[128 * RECORD_LENGTH..].iter().all(|&byte| byte == 0));
     }
 }
 

@@ -50,6 +50,8 @@ fn lines_of_no_known_form_are_refused() {
         "A 1 1",
         "B 1 d 5 100 0",
         "B 1 Q 5 100 0",
+        "B 1 R 5 100 0",
+        "B 1 R 5 100 0 250 100",
         "B 1 D 5 100",
         "B 1 D 5 100 0 0",
         "b 1 D 5 100 0",

@@ -18,21 +18,19 @@ fn unsound_book() -> Market {
 }
 
 /// Asserts a refusal of add that leaves the book as it was.
-fn add_refused(market: &Market, refusal: u32, numbers: [u32; 6]) {
+pub fn add_refused(market: &Market, refusal: u32, numbers: [u32; 8]) {
     let mut book = market.book.clone();
-    let [side, kind, number, price, size, minimum] = numbers;
-    let given = crate::add(&mut book, side, kind, number, price, size, minimum);
-    assert_eq!(given, refusal, "{numbers:?}");
+    assert_eq!(crate::add(&mut book, numbers), refusal, "{numbers:?}");
     assert_eq!(book, market.book);
 }
 
-fn reduce_refused(market: &Market, refusal: u32, number: u32, shares: u32) {
+pub fn reduce_refused(market: &Market, refusal: u32, number: u32, shares: u32) {
     let mut book = market.book.clone();
     assert_eq!(crate::reduce(&mut book, number, shares), refusal);
     assert_eq!(book, market.book);
 }
 
-fn take_refused(market: &Market, refusal: u32, numbers: [u32; 4], room: usize) {
+pub fn take_refused(market: &Market, refusal: u32, numbers: [u32; 4], room: usize) {
     let mut book = market.book.clone();
     let mut executions = vec![0x77; room];
     let [side, limit, size, algorithm] = numbers;
@@ -44,13 +42,14 @@ fn take_refused(market: &Market, refusal: u32, numbers: [u32; 4], room: usize) {
 
 #[test]
 fn numbers_of_add_out_of_range_come_first() {
-    let sound = [SELL, 3, 1, 1, 500, 400];
+    let sound = [SELL, 3, 1, 1, 500, 400, 0, 0];
     add_refused(&unsound_book(), 2, sound);
     for (place, number) in [
         (0, 0),
         (0, 3),
         (1, 0),
         (1, 4),
+        (1, 5),
         (2, 0),
         (3, 0),
         (3, 2_000_000_001),
@@ -66,31 +65,33 @@ fn numbers_of_add_out_of_range_come_first() {
         (5, 0),
         (5, 501),
         (5, u32::MAX),
+        (6, 1),
+        (7, 500),
     ] {
         let mut wrong = sound;
         wrong[place] = number;
         add_refused(&unsound_book(), 1, wrong);
     }
     for kind in [1, 2] {
-        add_refused(&unsound_book(), 1, [SELL, kind, 1, 1, 500, 1]);
+        add_refused(&unsound_book(), 1, [SELL, kind, 1, 1, 500, 1, 0, 0]);
     }
 }
 
 #[test]
 fn add_is_refused_in_this_order() {
-    let trading = [SELL, 1, 7, PRICE, 100, 0];
+    let trading = [SELL, 1, 7, PRICE, 100, 0, 0, 0];
     add_refused(&full_book(), 4, trading);
-    add_refused(&full_book(), 4, [SELL, 1, 5, PRICE, 100, 0]);
-    add_refused(&full_book(), 5, [SELL, 1, 8, PRICE, 100, 0]);
-    add_refused(&full_book(), 6, [SELL, 1, 8, PRICE + 1, 100, 0]);
+    add_refused(&full_book(), 4, [SELL, 1, 5, PRICE, 100, 0, 0, 0]);
+    add_refused(&full_book(), 5, [SELL, 1, 8, PRICE, 100, 0, 0, 0]);
+    add_refused(&full_book(), 6, [SELL, 1, 8, PRICE + 1, 100, 0, 0, 0]);
 }
 
 #[test]
 fn a_minimum_not_above_the_new_size_could_trade() {
-    add_refused(&full_book(), 5, [BUY, 1, 8, PRICE + 10, 400, 0]);
-    add_refused(&full_book(), 6, [BUY, 1, 8, PRICE + 10, 399, 0]);
-    add_refused(&full_book(), 6, [BUY, 1, 8, PRICE + 9, 400, 0]);
-    let own_minimum = [BUY, 3, 8, PRICE + 10, 500, 450];
+    add_refused(&full_book(), 5, [BUY, 1, 8, PRICE + 10, 400, 0, 0, 0]);
+    add_refused(&full_book(), 6, [BUY, 1, 8, PRICE + 10, 399, 0, 0, 0]);
+    add_refused(&full_book(), 6, [BUY, 1, 8, PRICE + 9, 400, 0, 0, 0]);
+    let own_minimum = [BUY, 3, 8, PRICE + 10, 500, 450, 0, 0];
     add_refused(&full_book(), 5, own_minimum);
 }
 

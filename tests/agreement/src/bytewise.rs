@@ -8,20 +8,20 @@ use model::ladder::ROW_LENGTH;
 use model::LADDER_LENGTH;
 use support::Coverage;
 
-/// Displayed, non-displayed and minimum quantity orders of both sides, two of
-/// them marked, with two free records behind.
+/// An order of each kind, of both sides, two of them marked, with a free record
+/// behind.
 fn small_book() -> Vec<u8> {
     let mut book = vec![0; 7 * RECORD_LENGTH];
     let orders = [
-        [2, 1, 0x0102_0304, 100_100, 600, 0],
-        [2, 1, 0x0102_0305, 100_000, 300, 0],
-        [2, 2, 0x0102_0306, 100_000, 50, 0],
-        [2, 3, 0x0102_0307, 100_000, 400, 300],
-        [1, 2, 0x0102_0308, 99_900, 70_000, 0],
+        [2, 4, 0x0102_0304, 100_100, 600, 0, 70_000, 600],
+        [2, 1, 0x0102_0305, 100_000, 300, 0, 0, 0],
+        [2, 2, 0x0102_0306, 100_000, 50, 0, 0, 0],
+        [2, 3, 0x0102_0307, 100_000, 400, 300, 0, 0],
+        [2, 4, 0x0102_0308, 100_000, 100, 0, 30, 100],
+        [1, 2, 0x0102_0309, 99_900, 70_000, 0, 0, 0],
     ];
-    for [side, kind, number, price, size, minimum] in orders {
-        let refusal = model::add(&mut book, side, kind, number, price, size, minimum);
-        assert_eq!(refusal, 0, "the book can be made");
+    for order in orders {
+        assert_eq!(model::add(&mut book, order), 0, "the book can be made");
     }
     book
 }
@@ -29,15 +29,15 @@ fn small_book() -> Vec<u8> {
 /// A call of each kind that looks at the whole book.
 const CALLS: [Call; 3] = [
     Call::Check,
-    Call::Reduce([0x0102_0306, 50]),
-    Call::Take([1, 100_100, 900, 3]),
+    Call::Reduce([0x0102_0308, 50]),
+    Call::Take([1, 100_100, 1_600, 3]),
 ];
 
 /// A form of each kind that is accepted with the book's own ladder.
 const FORMS: [Call; 3] = [
-    Call::AddLadder([2, 1, 0x0102_0309, 100_000, 100, 0]),
-    Call::ReduceLadder([0x0102_0306, 50]),
-    Call::TakeLadder([1, 100_100, 900, 3]),
+    Call::AddLadder([2, 4, 0x0102_030A, 100_000, 100, 0, 40, 100]),
+    Call::ReduceLadder([0x0102_0308, 50]),
+    Call::TakeLadder([1, 100_100, 1_600, 3]),
 ];
 /// The small book's ladder has three rows. Up to the end of the one behind them
 /// each byte is made every other value, and further on these.
@@ -56,7 +56,7 @@ impl Maker<'_> {
         let entry = Entry {
             call,
             book: book.to_vec(),
-            executions: vec![0x5A; 64],
+            executions: vec![0x5A; 140],
             ladder: ladder.to_vec(),
         };
         let lending = Lending {

@@ -9,15 +9,16 @@ pub enum Call {
     Check,
     /// Order number.
     Find([u32; 1]),
-    /// Side, kind, order number, price, size and minimum.
-    Add([u32; 6]),
+    /// Side, kind, order number, price, size, minimum, hidden shares and refresh
+    /// size.
+    Add([u32; 8]),
     /// Order number and shares.
     Reduce([u32; 2]),
     /// Side, limit price, size and algorithm.
     Take([u32; 4]),
     Ladder,
     /// The forms that keep a ladder, with the numbers of their plain calls.
-    AddLadder([u32; 6]),
+    AddLadder([u32; 8]),
     ReduceLadder([u32; 2]),
     TakeLadder([u32; 4]),
 }
@@ -160,10 +161,10 @@ fn for_best_price(random: &mut Random, orders: &[Order]) -> (Side, u32, u32) {
     (side, limit, size.min(LARGEST_SIZE))
 }
 
-/// The shares of the orders that fit.
+/// The shares of the orders that fit, hidden ones included.
 fn total_size(orders: &[Order], fits: impl Fn(&Order) -> bool) -> u32 {
     let fitting = orders.iter().filter(|order| fits(order));
-    fitting.map(|order| order.size).sum()
+    fitting.map(Order::shares).sum()
 }
 
 /// The number of an order, or often one beside it.
@@ -193,14 +194,18 @@ fn add(random: &mut Random, shape: &Shape, orders: &[Order]) -> Call {
 fn reduce(random: &mut Random, shape: &Shape, orders: &[Order]) -> Call {
     let number = number_near(random, orders);
     let found = orders.iter().find(|order| order.number == number);
-    let size = found.map_or(100, |order| order.size);
-    let shares = match random.below(8) {
-        0 => (size + 1).min(LARGEST_SIZE),
+    let all = found.map_or(100, Order::shares);
+    let hidden = found.map_or(0, Order::hidden);
+    let shares = match random.below(10) {
+        0 => all + 1,
         1 => shape.size(random),
-        2 | 3 => size,
-        _ => random.within(1..=size),
+        2 | 3 => all,
+        4 => hidden + random.within(0..=1),
+        5 => random.within(hidden..=all),
+        6 => LARGEST_SIZE,
+        _ => random.within(1..=all),
     };
-    Call::Reduce([number, shares])
+    Call::Reduce([number, shares.clamp(1, LARGEST_SIZE)])
 }
 
 /// The side and limit price of an incoming order that is mostly to meet a given

@@ -6,6 +6,7 @@ use crate::guarded::{Edge, Lender};
 use library::Numbers;
 use model::book::RECORD_LENGTH;
 use model::ladder::ROW_LENGTH;
+use model::EXECUTION_LENGTH;
 use std::fmt::Write;
 
 /// A call and the bytes of the buffers at its entry. One that the call isn't
@@ -57,10 +58,7 @@ pub fn by_model(entry: &Entry) -> Outcome {
             let (refusal, start, length) = model::find(&book, number);
             [refusal as usize, start, length]
         }
-        Call::Add([side, kind, number, price, size, minimum]) => {
-            let refusal = model::add(&mut book, side, kind, number, price, size, minimum);
-            only(refusal)
-        }
+        Call::Add(numbers) => only(model::add(&mut book, numbers)),
         Call::Reduce([number, shares]) => only(model::reduce(&mut book, number, shares)),
         Call::Take([side, limit, size, algorithm]) => {
             let taken = model::take(&mut book, &mut executions, side, limit, size, algorithm);
@@ -188,7 +186,7 @@ pub fn compare(entry: &Entry, model: &Outcome, library: &Outcome) -> Result<(), 
         ("book", RECORD_LENGTH, &model.book, &library.book),
         (
             "executions",
-            RECORD_LENGTH,
+            EXECUTION_LENGTH,
             &model.executions,
             &library.executions,
         ),

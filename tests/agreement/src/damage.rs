@@ -11,13 +11,15 @@ const PRICE: usize = 8;
 const SIZE: usize = 12;
 const MINIMUM: usize = 16;
 const SETTER: usize = 20;
+const HIDDEN: usize = 32;
+const REFRESH: usize = 36;
 
 /// Spoils a book that has these orders. One with too few orders or records for
 /// it may stay as it is.
 type Damage = fn(&mut Random, &mut Vec<u8>, &[Order]);
 
 /// Every kind of damage with its name.
-pub const DAMAGES: [(&str, Damage); 20] = [
+pub const DAMAGES: [(&str, Damage); 29] = [
     ("one byte changed", |random, book, orders| {
         change_a_byte(random, &mut book[..orders.len() * RECORD_LENGTH]);
     }),
@@ -26,14 +28,18 @@ pub const DAMAGES: [(&str, Damage); 20] = [
     }),
     ("random bytes", |random, book, _| random.fill(book)),
     ("no whole number of records", |random, book, _| {
-        book.resize(book.len() + random.within(1..=31) as usize, 0);
+        book.resize(book.len() + random.within(1..=39) as usize, 0);
+    }),
+    ("a whole number of 32 bytes", |random, book, _| {
+        let records = 5 * random.below(52) + random.within(1..=4) as usize;
+        book.resize(32 * records, 0);
     }),
     ("more than 256 records", |random, book, _| {
         let more = random.one_of(&[1, 2, 256, 300]);
         book.resize(LONGEST_BOOK + more * RECORD_LENGTH, 0);
     }),
     ("too long, no whole number of records", |random, book, _| {
-        let more = random.within(1..=31) + 32 * random.within(0..=300);
+        let more = random.within(1..=39) + 40 * random.within(0..=300);
         book.resize(LONGEST_BOOK + more as usize, 0);
     }),
     ("a gap between orders", |random, book, orders| {
@@ -49,8 +55,11 @@ pub const DAMAGES: [(&str, Damage); 20] = [
     }),
     ("a wrong mark", |random, book, orders| {
         in_record(random, book, orders, any, |random, record| {
-            record[random.below(2)] = random.one_of(&[0, 0x43, 0x4E, 0xFF]);
+            record[random.below(2)] = random.one_of(&[0, 0x44, 0x4E, 0xFF]);
         });
+    }),
+    ("the mark 4F 42", |random, book, orders| {
+        in_record(random, book, orders, any, |_, record| record[1] = 0x42);
     }),
     ("a wrong side", |random, book, orders| {
         in_record(random, book, orders, any, |random, record| {
@@ -59,8 +68,11 @@ pub const DAMAGES: [(&str, Damage); 20] = [
     }),
     ("a wrong kind", |random, book, orders| {
         in_record(random, book, orders, any, |random, record| {
-            record[KIND] = random.one_of(&[0, 4, 255]);
+            record[KIND] = random.one_of(&[0, 6, 255]);
         });
+    }),
+    ("kind 5", |random, book, orders| {
+        in_record(random, book, orders, any, |_, record| record[KIND] = 5);
     }),
     ("number 0", |random, book, orders| {
         let first = &orders[..orders.len().min(1)];
@@ -89,9 +101,41 @@ pub const DAMAGES: [(&str, Damage); 20] = [
         });
     }),
     ("a minimum of another kind", |random, book, orders| {
-        let has_none = |order: &Order| !matches!(order.kind, Kind::MinimumQuantity { .. });
+        let has_none = |order: &Order| matches!(order.kind, Kind::Displayed | Kind::NonDisplayed);
         in_record(random, book, orders, has_none, |_, record| {
             set_number(record, MINIMUM, 1);
+        });
+    }),
+    ("a minimum of a reserve order", |random, book, orders| {
+        in_record(random, book, orders, is_reserve, |_, record| {
+            set_number(record, MINIMUM, 1);
+        });
+    }),
+    ("hidden shares of another kind", |random, book, orders| {
+        in_record(random, book, orders, is_no_reserve, |random, record| {
+            set_number(record, HIDDEN, random.one_of(&[1, 5, 256, 1 << 24]));
+        });
+    }),
+    ("a refresh size of another kind", |random, book, orders| {
+        in_record(random, book, orders, is_no_reserve, |random, record| {
+            set_number(record, REFRESH, random.one_of(&[1, 5, 256, 1 << 24]));
+        });
+    }),
+    ("too many hidden shares", |random, book, orders| {
+        in_record(random, book, orders, is_reserve, |random, record| {
+            let hidden = random.one_of(&[LARGEST_SIZE + 1, 1 << 31, u32::MAX]);
+            set_number(record, HIDDEN, hidden);
+        });
+    }),
+    ("the refresh size 0", |random, book, orders| {
+        in_record(random, book, orders, is_reserve, |_, record| {
+            set_number(record, REFRESH, 0);
+        });
+    }),
+    ("a refresh size too large", |random, book, orders| {
+        in_record(random, book, orders, is_reserve, |random, record| {
+            let refresh = random.one_of(&[LARGEST_SIZE + 1, 1 << 31, u32::MAX]);
+            set_number(record, REFRESH, refresh);
         });
     }),
     ("a setter mark that is none", |random, book, orders| {
@@ -119,6 +163,14 @@ pub const DAMAGES: [(&str, Damage); 20] = [
 /// Fits every order.
 fn any(_: &Order) -> bool {
     true
+}
+
+fn is_reserve(order: &Order) -> bool {
+    matches!(order.kind, Kind::Reserve { .. })
+}
+
+fn is_no_reserve(order: &Order) -> bool {
+    !is_reserve(order)
 }
 
 fn change_a_byte(random: &mut Random, bytes: &mut [u8]) {

@@ -5,7 +5,11 @@ use crate::rounds::{Group, Making};
 use crate::shapes::{Shape, Sizes};
 use model::book::Side;
 
-const EVEN: [usize; 3] = [1, 1, 1];
+/// How often displayed, non-displayed, minimum quantity and reserve orders come.
+const EVEN: [usize; 4] = [1, 1, 1, 1];
+const MOSTLY_DISPLAYED: [usize; 4] = [8, 1, 1, 3];
+const MOSTLY_RESERVE: [usize; 4] = [1, 1, 1, 6];
+const ONLY_RESERVE: [usize; 4] = [0, 0, 0, 1];
 
 /// How often check, find, add, reduce, take and ladder come.
 const MIXED: [usize; 6] = [1, 2, 4, 2, 4, 0];
@@ -25,7 +29,7 @@ fn group(name: &'static str, making: Making, mix: [usize; 6], calls: usize) -> G
             keeps_ladder: false,
             for_best: false,
             wrong: 40,
-            algorithms: EVEN,
+            algorithms: [1, 1, 1],
         },
         calls,
         one_in: 1,
@@ -34,7 +38,7 @@ fn group(name: &'static str, making: Making, mix: [usize; 6], calls: usize) -> G
 
 pub fn all() -> Vec<Group> {
     let mut minimums = group("minimum quantity orders", Making::Built, MOSTLY_TAKE, 6);
-    minimums.kinds = [1, 2, 8];
+    minimums.kinds = [1, 2, 8, 1];
     let mut large = group("large sizes", Making::Built, MIXED, 10);
     large.reshape = |shape| shape.sizes = Sizes::Large;
     let mut wrong = group("wrong numbers", Making::Grown, MIXED, 20);
@@ -61,7 +65,49 @@ pub fn all() -> Vec<Group> {
     ];
     groups.extend(ladder_groups());
     groups.extend(leaving_groups());
+    groups.extend(reserve_groups());
     groups
+}
+
+/// The groups whose books have mostly reserve orders, or no others.
+fn reserve_groups() -> Vec<Group> {
+    let reserves = |name, making, mix, calls| {
+        let mut reserves = group(name, making, mix, calls);
+        reserves.kinds = MOSTLY_RESERVE;
+        reserves
+    };
+    let mut ladders = reserves("reserve orders with ladders", Making::Grown, LADDERS, 10);
+    ladders.caller.keeps_ladder = true;
+    let mut built = reserves("ladders of reserve orders", Making::Built, LADDERS, 8);
+    built.caller.keeps_ladder = true;
+    let mut large = reserves("large reserve orders", Making::Built, LADDERS, 6);
+    large.caller.keeps_ladder = true;
+    large.reshape = |shape| shape.sizes = Sizes::Large;
+    // A take for all of such a book executes every order twice.
+    let full = |name| {
+        let mut full = reserves(name, Making::Full, ONLY_TAKE, 2);
+        full.kinds = ONLY_RESERVE;
+        full.reshape = |shape| {
+            shape.choose();
+            shape.levels = 1;
+            shape.sides = [shape.sides[0]; 2];
+            shape.always_hides = true;
+        };
+        full.caller.for_best = true;
+        full.one_in = 4;
+        full
+    };
+    let mut full_ladders = full("ladders of full books of reserve orders");
+    full_ladders.caller.keeps_ladder = true;
+    vec![
+        reserves("reserve orders", Making::Built, MOSTLY_TAKE, 10),
+        reserves("reserve orders grown by add", Making::Grown, MIXED, 10),
+        full("full books of reserve orders"),
+        ladders,
+        built,
+        large,
+        full_ladders,
+    ]
 }
 
 /// The groups whose takes are for orders that were chosen to leave, and behind
@@ -122,13 +168,13 @@ fn ladder_groups() -> Vec<Group> {
 /// The groups whose takes are mostly by the price-setter variation.
 fn setter_groups() -> [Group; 3] {
     let mut setters = group("price setters", Making::Grown, MOSTLY_TAKE, 8);
-    setters.kinds = [8, 1, 1];
+    setters.kinds = MOSTLY_DISPLAYED;
     setters.caller.algorithms = [1, 1, 6];
     let mut marks = group("setter marks at every price", Making::Built, MOSTLY_TAKE, 5);
-    marks.kinds = [8, 1, 1];
+    marks.kinds = MOSTLY_DISPLAYED;
     marks.caller.algorithms = [0, 0, 1];
     let mut equals = group("setters among equal sizes", Making::Few, MOSTLY_TAKE, 5);
-    equals.kinds = [8, 1, 1];
+    equals.kinds = MOSTLY_DISPLAYED;
     equals.reshape = |shape| {
         shape.sizes = Sizes::Alike;
         shape.levels = 1;

@@ -112,21 +112,10 @@ impl Loan<'_> {
         answer
     }
 
-    /// The pages whose records, those included that begin or end in another page,
-    /// have these bytes already.
+    /// The pages whose records have these bytes already.
     fn kept_pages(&mut self, after: &[u8]) -> Vec<usize> {
-        let (start, length) = (self.start, self.length);
-        let before = self.bytes();
-        let within = |place: usize| place.saturating_sub(start).min(length);
-        let is_kept = |page: &usize| {
-            let from = within(page * PAGE) / RECORD_LENGTH * RECORD_LENGTH;
-            let to = within((page + 1) * PAGE).next_multiple_of(RECORD_LENGTH);
-            let part = from..to.min(length);
-            before[part.clone()] == after[part]
-        };
-        (0..(start + length).div_ceil(PAGE))
-            .filter(is_kept)
-            .collect()
+        let stays = pages_that_stay(self.start, self.bytes(), after);
+        (0..stays.len()).filter(|&page| stays[page]).collect()
     }
 
     fn protect_pages(&mut self, pages: &[usize], protection: c_int) {
@@ -159,6 +148,27 @@ impl Loan<'_> {
         // Safety: none; the process ends here.
         self.read_only(|_| unsafe { start.write_volatile(0) });
     }
+}
+
+/// Whether the records of each page, those included that begin or end in another
+/// page, are the same before and after, of a book so many bytes behind the start of
+/// the first.
+fn pages_that_stay(start: usize, before: &[u8], after: &[u8]) -> Vec<bool> {
+    let length = before.len();
+    let within = |place: usize| place.saturating_sub(start).min(length);
+    let stays = |page: usize| {
+        let from = within(page * PAGE) / RECORD_LENGTH * RECORD_LENGTH;
+        let to = within((page + 1) * PAGE).next_multiple_of(RECORD_LENGTH);
+        let part = from..to.min(length);
+        before[part.clone()] == after[part]
+    };
+    (0..(start + length).div_ceil(PAGE)).map(stays).collect()
+}
+
+/// As above, of a book that ends where a page ends.
+pub fn pages_at_end(before: &[u8], after: &[u8]) -> Vec<bool> {
+    let start = before.len().next_multiple_of(PAGE) - before.len();
+    pages_that_stay(start, before, after)
 }
 
 /// The start of readable and writable pages between two that are neither.

@@ -114,7 +114,7 @@ impl Scene<'_> {
         let entry = Entry {
             call: self.call.plain(),
             book: self.book.to_vec(),
-            executions: vec![0; LONGEST_BOOK / RECORD_LENGTH * EXECUTION_LENGTH],
+            executions: vec![0; 2 * LONGEST_BOOK / RECORD_LENGTH * EXECUTION_LENGTH],
             ladder: Vec::new(),
         };
         compare::by_model(&entry).book

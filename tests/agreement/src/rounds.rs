@@ -13,6 +13,8 @@ use model::EXECUTION_LENGTH;
 use support::{Coverage, Random};
 
 const FULL_BOOK: usize = 256;
+/// Both parts of every order of a full book.
+const MOST_EXECUTIONS: usize = 2 * FULL_BOOK;
 
 /// How the books of a group are made.
 #[derive(Clone, Copy)]
@@ -38,7 +40,7 @@ pub enum Making {
 pub struct Group {
     pub name: &'static str,
     pub making: Making,
-    pub kinds: [usize; 3],
+    pub kinds: [usize; 4],
     /// What the group's shapes have in common beside the kinds.
     pub reshape: fn(&mut Shape),
     pub caller: Caller,
@@ -194,7 +196,7 @@ fn executions_buffer(random: &mut Random, call: Call, book: &[u8]) -> Vec<u8> {
     let trial = Entry {
         call: call.plain(),
         book: book.to_vec(),
-        executions: vec![0; FULL_BOOK * EXECUTION_LENGTH],
+        executions: vec![0; MOST_EXECUTIONS * EXECUTION_LENGTH],
         ladder: Vec::new(),
     };
     let need = compare::by_model(&trial).numbers[1] * EXECUTION_LENGTH;
@@ -204,7 +206,7 @@ fn executions_buffer(random: &mut Random, call: Call, book: &[u8]) -> Vec<u8> {
         2 => random.below(need + 1),
         3 => need + 1,
         4 => need + 1 + random.below(40),
-        5 => random.below(5_000),
+        5 => random.below(9_000),
         6..=8 => trial.executions.len(),
         _ => need,
     };

@@ -4,6 +4,7 @@
 use crate::calls::Call;
 use crate::compare::{self, Borrower, Entry, Lending, Outcome};
 use crate::guarded::{self, Edge, Lender};
+use model::book::{LONGEST_BOOK, RECORD_LENGTH};
 use model::LADDER_LENGTH;
 use std::os::unix::process::ExitStatusExt;
 use std::process::Command;
@@ -13,9 +14,9 @@ use support::Report;
 pub const TOUCH: &str = "touch";
 
 const SIGSEGV: i32 = 11;
-/// Lengths of the buffers beside which a byte is touched; the last is two whole
-/// pages, the one before it a ladder's.
-const LENGTHS: [usize; 5] = [0, 1, 100, LADDER_LENGTH, 8_192];
+/// Lengths of the buffers beside which a byte is touched; the last are a ladder's,
+/// that of all executions, which is two whole pages, and a full book's.
+const LENGTHS: [usize; 6] = [0, 1, 100, LADDER_LENGTH, 8_192, LONGEST_BOOK];
 
 /// Touches a byte that may not be touched, which should be the end.
 pub fn touch(what: &str, length: usize) {
@@ -80,18 +81,22 @@ fn margin_is_watched() -> Result<(), String> {
     Ok(())
 }
 
-/// A take with a ladder that executes, and so has an answer of each sort and
-/// changes every buffer.
+/// A take with a ladder that executes both parts of a reserve order, refreshes it
+/// and leaves shares, and so has an answer of each sort and changes every buffer.
 fn sample() -> Entry {
-    let mut book = vec![0; 96];
+    let mut book = vec![0; 3 * RECORD_LENGTH];
     let mut ladder = vec![0; LADDER_LENGTH];
-    for (number, size) in [(1, 600), (2, 400), (3, 300)] {
-        model::add_ladder(&mut book, &mut ladder, [2, 1, number, 100_000, size, 0]);
+    for order in [
+        [2, 4, 1, 100_000, 600, 0, 900, 600],
+        [2, 1, 2, 100_000, 400, 0, 0, 0],
+        [2, 1, 3, 100_000, 300, 0, 0, 0],
+    ] {
+        model::add_ladder(&mut book, &mut ladder, order);
     }
     Entry {
-        call: Call::TakeLadder([1, 100_000, 1_200, 2]),
+        call: Call::TakeLadder([1, 100_000, 1_400, 2]),
         book,
-        executions: vec![0x5A; 64],
+        executions: vec![0x5A; 80],
         ladder,
     }
 }
@@ -160,12 +165,14 @@ pub fn run(report: &mut Report, borrower: &mut Borrower) {
         let name = format!("an altered number {place} of an answer is seen");
         report.check(&name, sees(borrower, |outcome| outcome.numbers[place] ^= 1));
     }
-    for place in [0, 95] {
+    // The first and the last byte of hidden shares and refresh size, and the zeros
+    // behind the only order that rests.
+    for place in [0, 32, 35, 36, 39, 40, 119] {
         let name = format!("an altered byte {place} of the book is seen");
         report.check(&name, sees(borrower, |outcome| outcome.book[place] ^= 1));
     }
     // Bytes 2 and 3 are an execution's paragraph and the zero behind it.
-    for place in [0, 2, 3, 47, 63] {
+    for place in [0, 2, 3, 63, 79] {
         let name = format!("an altered byte {place} of the executions is seen");
         let outcome = sees(borrower, |outcome| outcome.executions[place] ^= 1);
         report.check(&name, outcome);

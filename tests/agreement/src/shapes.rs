@@ -1,6 +1,6 @@
 //! What the orders of random books look like, and the making of sound books.
 
-use model::book::{self, Order, Side, HIGHEST_PRICE, LARGEST_SIZE, RECORD_LENGTH};
+use model::book::{self, Kind, Order, Side, HIGHEST_PRICE, LARGEST_SIZE, RECORD_LENGTH};
 use support::Random;
 
 /// Levels of a side in a book that has a price for each order; prime to the
@@ -42,8 +42,11 @@ pub struct Shape {
     pub sizes: Sizes,
     /// The size that most orders have if sizes are alike.
     pub usual: u32,
-    /// How often displayed, non-displayed and minimum quantity orders come.
-    pub kinds: [usize; 3],
+    /// How often displayed, non-displayed, minimum quantity and reserve orders
+    /// come.
+    pub kinds: [usize; 4],
+    /// Whether every reserve order hides shares.
+    pub always_hides: bool,
     /// The sides that orders have, one as often as the other.
     pub sides: [Side; 2],
     /// Whether buys and sells have the same prices, or meet at one at most.
@@ -54,8 +57,12 @@ pub struct Shape {
 }
 
 impl Shape {
-    /// A shape of these kinds, the rest by chance.
-    pub fn random(random: &mut Random, kinds: [usize; 3]) -> Shape {
+    /// A shape of these kinds, the rest by chance. Where reserve orders are one kind
+    /// of several, every other shape is without them.
+    pub fn random(random: &mut Random, mut kinds: [usize; 4]) -> Shape {
+        if kinds[..3] != [0; 3] && random.once_in(2) {
+            kinds[3] = 0;
+        }
         let levels = random.one_of(&[1, 1, 2, 3, 5, 40, 600]);
         let step = random.one_of(&[1, 100, 256]);
         let highest = highest_start(levels, step);
@@ -71,6 +78,7 @@ impl Shape {
             ]),
             usual: random.one_of(&[40, 99, 250, 500, 1_000]),
             kinds,
+            always_hides: false,
             sides: [Side::Buy, Side::Sell],
             overlap: random.once_in(3),
             lowest: random.one_of(&[1, 100_000, highest]),
@@ -117,19 +125,36 @@ impl Shape {
         }
     }
 
-    /// Side, kind, number, price, size and minimum of an order, as add takes
-    /// them.
-    pub fn order(&self, random: &mut Random, number: u32) -> [u32; 6] {
+    /// The numbers of an order, as add takes them.
+    pub fn order(&self, random: &mut Random, number: u32) -> [u32; 8] {
         let side = random.one_of(&self.sides);
         let kind = random.weighted(&self.kinds) as u32 + 1;
         let price = self.price_of_side(random, side);
         let size = self.size(random);
         let any = random.within(1..=size);
-        let minimum = match kind {
-            3 => random.one_of(&[1, size, 100.min(size), 200.min(size), any, any]),
-            _ => 0,
+        let (minimum, hidden, refresh) = match kind {
+            3 => {
+                let minimums = [1, size, 100.min(size), 200.min(size), any, any];
+                (random.one_of(&minimums), 0, 0)
+            }
+            4 => (0, self.hidden(random, size), size),
+            _ => (0, 0, 0),
         };
-        [side as u32, kind, number, price, size, minimum]
+        let side = side as u32;
+        [side, kind, number, price, size, minimum, hidden, refresh]
+    }
+
+    /// What a reserve order hides that shows so many shares.
+    fn hidden(&self, random: &mut Random, shown: u32) -> u32 {
+        let below_a_lot = random.within(1..=99);
+        let any = self.size(random);
+        match random.below(6) {
+            0 if !self.always_hides => 0,
+            1 => shown,
+            2 => below_a_lot,
+            3 => shown.div_ceil(2),
+            _ => any,
+        }
     }
 
     /// A sound book of so many records, so many of them orders, written record
@@ -169,14 +194,18 @@ impl Shape {
         marked_book(random, records, placed)
     }
 
-    /// So many orders, by rising number and without marks.
+    /// So many orders, by rising number and without marks. The refresh size of a
+    /// reserve order may be another than what it shows.
     fn orders(&self, random: &mut Random, orders: usize) -> Vec<Order> {
         let mut next = random.one_of(&[1, 1_000, u32::MAX - 3 * 256]);
         let mut placed: Vec<Order> = Vec::new();
         for _ in 0..orders {
-            let [side, kind, number, price, size, minimum] = self.order(random, next);
-            let order = Order::of_numbers(side, kind, number, price, size, minimum)
-                .expect("numbers within their ranges");
+            let order = Order::of_numbers(self.order(random, next));
+            let mut order = order.expect("numbers within their ranges");
+            if let Kind::Reserve { refresh, .. } = &mut order.kind {
+                let another = self.size(random);
+                *refresh = random.one_of(&[order.size, order.size, another, 1]);
+            }
             placed.push(order);
             next += random.within(1..=3);
         }
@@ -206,8 +235,7 @@ impl Shape {
     pub fn grown_book(&self, random: &mut Random, records: usize, tries: usize) -> Vec<u8> {
         let mut book = vec![0; records * RECORD_LENGTH];
         for number in 1..=tries as u32 {
-            let [side, kind, number, price, size, minimum] = self.order(random, number);
-            model::add(&mut book, side, kind, number, price, size, minimum);
+            model::add(&mut book, self.order(random, number));
         }
         book
     }

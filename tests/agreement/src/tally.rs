@@ -5,12 +5,15 @@ mod groups;
 mod ladders;
 mod leaving;
 mod paragraphs;
+mod reserve_entries;
+mod reserves;
 mod setters;
 mod takes;
 
 use crate::calls::Call;
 use crate::compare::{Entry, Outcome};
 use crate::damage::DAMAGES;
+use crate::guarded;
 use crate::ladders::WRONG_LADDERS;
 use model::book::{self, Order, Side, LONGEST_BOOK, RECORD_LENGTH};
 use support::Coverage;
@@ -29,19 +32,20 @@ const REFUSALS: [(&str, &[usize]); 9] = [
     ("take_ladder", &[1, 2, 9, 10, 8]),
 ];
 
-const OCCASIONS: [&str; 6] = [
+const OCCASIONS: [&str; 7] = [
     "add that set a setter mark",
     "reduce that emptied an order",
     "reduce that lowered a minimum",
     "book of length 0",
     "full book of 256 orders",
     "book whose sides overlap",
+    "book with a marked reserve order",
 ];
 
-/// What of a full book could not be written in a take, and stays.
-const FIRST_HALF_KEPT: &str = "the first 128 not writable, one behind them changed";
-const SECOND_HALF_KEPT: &str = "the last 128 not writable, one before them changed";
-const BOTH_HALVES_KEPT: &str = "none writable, none changed";
+/// Which pages of a full book could not be written in a take, and stay.
+const FIRST_KEPT: &str = "those of the first page not writable, one behind it changed";
+const LAST_KEPT: &str = "those of the last page not writable, one before it changed";
+const ALL_KEPT: &str = "none writable, none changed";
 
 /// The counts that every full run has to raise above 0.
 pub fn expected() -> Coverage {
@@ -66,17 +70,19 @@ pub fn expected() -> Coverage {
     divisions::expect(&mut coverage);
     setters::expect(&mut coverage);
     leaving::expect(&mut coverage);
+    reserves::expect(&mut coverage);
+    reserve_entries::expect(&mut coverage);
     ladders::expect(&mut coverage);
     for call in ["take", "take_ladder"] {
-        for half in [FIRST_HALF_KEPT, SECOND_HALF_KEPT, BOTH_HALVES_KEPT] {
-            coverage.expect(kept(call, half));
+        for pages in [FIRST_KEPT, LAST_KEPT, ALL_KEPT] {
+            coverage.expect(kept(call, pages));
         }
     }
     coverage
 }
 
-fn kept(call: &str, half: &str) -> String {
-    format!("{call}: of 256 records, {half}")
+fn kept(call: &str, pages: &str) -> String {
+    format!("{call}: of 256 records, {pages}")
 }
 
 pub fn refused_damage(damage: &str) -> String {
@@ -101,6 +107,10 @@ pub fn note(coverage: &mut Coverage, entry: &Entry, outcome: &Outcome) {
         if has_ladder {
             ladders::note_refused(coverage, entry, outcome);
         }
+        match outcome.refusal() {
+            8 => reserves::note_refused(coverage, entry),
+            refusal => reserve_entries::note_refused(coverage, entry, refusal),
+        }
         return;
     }
     let before = book::read(&entry.book).expect("an accepted call has a sound book");
@@ -113,8 +123,12 @@ pub fn note(coverage: &mut Coverage, entry: &Entry, outcome: &Outcome) {
         Call::Add(_) => {
             let marked = after.last().is_some_and(|order| order.setter);
             coverage.note_if(marked, "add that set a setter mark");
+            reserve_entries::note_add(coverage, entry, [&before, &after]);
         }
-        Call::Reduce([number, _]) => note_reduce(coverage, number, &before, &after),
+        Call::Reduce([number, shares]) => {
+            note_reduce(coverage, number, &before, &after);
+            reserve_entries::note_reduce(coverage, entry.call.name(), number, shares, &before);
+        }
         Call::Take(_) => {
             let take = Take::new(entry, outcome, &before);
             take.note(coverage);
@@ -122,27 +136,32 @@ pub fn note(coverage: &mut Coverage, entry: &Entry, outcome: &Outcome) {
             divisions::note(coverage, &take);
             setters::note(coverage, entry, &before, &take);
             leaving::note(coverage, entry, &take, [&before, &after]);
+            reserves::note(coverage, entry, &take, [&before, &after]);
         }
         _ => {}
     }
 }
 
-/// Notes a take from a full book of which what stays could not be written. Each
-/// half of the book is a page.
+/// Notes a take from a full book of which what stays could not be written.
 pub fn note_kept(coverage: &mut Coverage, entry: &Entry, outcome: &Outcome) {
     if !matches!(entry.call.plain(), Call::Take(_)) || entry.book.len() != LONGEST_BOOK {
         return;
     }
-    let half = LONGEST_BOOK / 2;
-    let first_stays = entry.book[..half] == outcome.book[..half];
-    let second_stays = entry.book[half..] == outcome.book[half..];
-    let name = match (first_stays, second_stays) {
-        (true, true) => BOTH_HALVES_KEPT,
-        (true, false) => FIRST_HALF_KEPT,
-        (false, true) => SECOND_HALF_KEPT,
-        (false, false) => return,
-    };
-    coverage.note(kept(entry.call.name(), name));
+    let pages = guarded::pages_at_end(&entry.book, &outcome.book);
+    let all = pages.iter().all(|&stays| stays);
+    let mut note = |pages| coverage.note(kept(entry.call.name(), pages));
+    match pages[..] {
+        _ if all => note(ALL_KEPT),
+        [first, .., last] => {
+            if first {
+                note(FIRST_KEPT);
+            }
+            if last {
+                note(LAST_KEPT);
+            }
+        }
+        _ => {}
+    }
 }
 
 fn note_book(coverage: &mut Coverage, entry: &Entry, orders: &[Order]) {
@@ -156,6 +175,9 @@ fn note_book(coverage: &mut Coverage, entry: &Entry, orders: &[Order]) {
     coverage.note_if(entry.book.is_empty(), "book of length 0");
     coverage.note_if(full, "full book of 256 orders");
     coverage.note_if(overlap, "book whose sides overlap");
+    let marked = |order: &Order| order.setter && reserves::is_reserve(order);
+    let marked = orders.iter().any(marked);
+    coverage.note_if(marked, "book with a marked reserve order");
 }
 
 fn note_reduce(coverage: &mut Coverage, number: u32, before: &[Order], after: &[Order]) {

@@ -31,6 +31,8 @@ struct AddRequest {
     price: u32,
     size: u32,
     minimum: u32,
+    hidden: u32,
+    refresh: u32,
 }
 
 #[repr(C)]
@@ -83,8 +85,8 @@ extern "C" {
 
 impl AddRequest {
     #[inline]
-    fn of(numbers: [u32; 6]) -> AddRequest {
-        let [side, kind, number, price, size, minimum] = numbers;
+    fn of(numbers: [u32; 8]) -> AddRequest {
+        let [side, kind, number, price, size, minimum, hidden, refresh] = numbers;
         AddRequest {
             side,
             kind,
@@ -92,6 +94,8 @@ impl AddRequest {
             price,
             size,
             minimum,
+            hidden,
+            refresh,
         }
     }
 }
@@ -136,9 +140,9 @@ pub fn find(book: &[u8], number: u32) -> Numbers {
     [found.refusal as usize, found.start, found.length]
 }
 
-/// Side, kind, number, price, size and minimum.
+/// Side, kind, number, price, size, minimum, hidden shares and refresh size.
 #[inline]
-pub fn add(book: &mut [u8], numbers: [u32; 6]) -> Numbers {
+pub fn add(book: &mut [u8], numbers: [u32; 8]) -> Numbers {
     let request = AddRequest::of(numbers);
     // Safety: the slice is as many bytes as said, and nobody else's meanwhile.
     only(unsafe { ruhvasto_add(book.as_mut_ptr(), book.len(), request) })
@@ -169,7 +173,7 @@ pub fn ladder(book: &[u8], ladder: &mut [u8]) -> Numbers {
 
 /// Add that keeps a ladder.
 #[inline]
-pub fn add_ladder(book: &mut [u8], ladder: &mut [u8], numbers: [u32; 6]) -> Numbers {
+pub fn add_ladder(book: &mut [u8], ladder: &mut [u8], numbers: [u32; 8]) -> Numbers {
     let request = AddRequest::of(numbers);
     let (start, length) = (book.as_mut_ptr(), book.len());
     let (second, room) = (ladder.as_mut_ptr(), ladder.len());

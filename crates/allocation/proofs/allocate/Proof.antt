@@ -6,6 +6,7 @@ use native.Mathlib.Omega.{arith}
 use borrow.Author.Needs.{needs}
 use lib.ListN.{length, take, drop, length-drop}
 use lib.Seq.{length-take-le, length-front}
+use Rattle.orders.specs.Order.{shown, hidden}
 use Rattle.matching.specs.declared.incoming.Incoming.{Incoming}
 use Rattle.allocation.specs.Stretch.{Ends}
 use Rattle.allocation.specs.Credit.{Ledger, ledger}
@@ -14,31 +15,31 @@ use Rattle.allocation.proofs.allocate.Statement.{statement}
 use Rattle.allocation.proofs.allocate.Tie as tie
 
 abbrev Inv-loop : tie.InvT-loop
-Inv-loop book keys algorithm lot sizes₀ minimums₀ gets₀ fills₀ allotment₀ now₀ at₀ sizes minimums gets fills allotment now at =
+Inv-loop book keys algorithm lot sizes₀ minimums₀ gets₀ fills₀ ss₀ hs₀ now₀ at₀ sizes minimums gets fills ss hs now at =
     (length sizes ≡ length sizes₀) × (length minimums ≡ length minimums₀) × (length gets ≡ length gets₀)
-    × Way book keys (lot .0) algorithm (now₀ .incoming .taker) (ledger now₀ fills₀ allotment₀) at (ledger now fills allotment)
+    × Way book keys (lot .0) algorithm (now₀ .incoming .taker) (ledger now₀ fills₀ ss₀ hs₀) at (ledger now fills ss hs)
 
 abbrev μ-loop : tie.MeasureT-loop
-μ-loop book keys algorithm lot sizes₀ minimums₀ gets₀ fills₀ allotment₀ now₀ at₀ sizes minimums gets fills allotment now at = length keys - at
+μ-loop book keys algorithm lot sizes₀ minimums₀ gets₀ fills₀ ss₀ hs₀ now₀ at₀ sizes minimums gets fills ss hs now at = length keys - at
 
 loop-holds : tie.Need-loop-holds Inv-loop μ-loop
 loop-holds c =
-    let s = c .before .before .before .before .before .before .before in
+    let s = c .before .before .before .before .before .before .before .before in
     let a = s .args in (
       refl,
       refl,
       refl,
       way-none (a .book .now) (a .keys .now) (a .lot .0) (a .algorithm) (a .incoming .taker)
-          (ledger (record { incoming = a .incoming; count = 0 }) (a .fills .now) (a .allotment .now)) (s .pre .2),
+          (ledger (record { incoming = a .incoming; count = 0 }) (a .fills .now) (a .shown .now) (a .hidden .now)) (s .pre .2),
     )
 
 -- At the loop: the start, and the ledger there.
 module _ (l : tie.At-loop Inv-loop μ-loop) where
   abbrev s : tie.Start Inv-loop μ-loop
-  s = l .before .before .before .before .before .before .before .before
+  s = l .before .before .before .before .before .before .before .before .before
 
   abbrev start : Ledger
-  start = ledger (record { incoming = s .args .incoming; count = 0 }) (s .args .fills .now) (s .args .allotment .now)
+  start = ledger (record { incoming = s .args .incoming; count = 0 }) (s .args .fills .now) (s .args .shown .now) (s .args .hidden .now)
 
   abbrev keys : List ℕ
   keys = s .args .keys .now
@@ -67,14 +68,14 @@ part-fill-end c = inside c
 
 fill-requires : tie.Need-fill-requires Inv-loop μ-loop
 fill-requires c κs =
-    let u = c .before .before .before in
+    let u = c .before .before .before .before in
     let a = s (l u) .args in
     fill-ready (a .book .now) (keys (l u)) (a .lot .0) (a .algorithm) (a .incoming .taker) (start (l u)) (s (l u) .pre .0) (l u .loop .inv .3) (u .whole .ensures)
 
 -- Once they are.
 module _ (f : tie.After-fill Inv-loop μ-loop) where
   abbrev u : tie.After-whole Inv-loop μ-loop
-  u = f .before .before .before .before
+  u = f .before .before .before .before .before
 
   abbrev st : tie.Start Inv-loop μ-loop
   st = s (l u)
@@ -87,7 +88,7 @@ module _ (f : tie.After-fill Inv-loop μ-loop) where
 
   -- how far the order has come
   abbrev then : Ledger
-  then = ledger (f .fill .result) (f .fill .last .1 .1 .0) (f .fill .last .1 .1 .1 .0)
+  then = ledger (f .fill .result) (f .fill .last .1 .1 .1 .0) (f .fill .last .1 .1 .1 .1 .0) (f .fill .last .1 .1 .1 .1 .1 .0)
 
   way : Way (st .args .book .now) ks (st .args .lot .0) (st .args .algorithm) (st .args .incoming .taker) (start (l u)) at then
   way =
@@ -102,10 +103,10 @@ abbrev inv : (f : tie.After-fill Inv-loop μ-loop)
 inv f = let i = l (u f) .loop .inv in (i .0, i .1, i .2)
 
 abbrev early : tie.Then1 Inv-loop μ-loop → tie.After-fill Inv-loop μ-loop
-early c = c .before .before .before .before .before
+early c = c .before .before .before .before .before .before .before
 
 abbrev late : tie.Then2 Inv-loop μ-loop → tie.After-fill Inv-loop μ-loop
-late c = c .before .before .before .before .before .before .before .before .before
+late c = c .before .before .before .before .before .before .before .before .before .before .before
 
 returns : tie.Need-returns Inv-loop μ-loop
 returns c =
@@ -121,7 +122,7 @@ returns-2 c =
 
 group-end-requires : tie.Need-group-end-requires Inv-loop μ-loop
 group-end-requires c κs =
-    let f = c .before .before .before .before .before .before .before .before .before in
+    let f = c .before .before .before .before .before .before .before .before .before .before .before in
     let a = st f .args in (
       keys-rising (a .book .now) (ks f) (a .lot .0) (a .algorithm) (a .incoming .taker) (start (l (u f))) (st f .pre .0),
       omega (arith, inside (u f), c .before .before .before .before .if1 .left),
@@ -136,7 +137,7 @@ returns-3 c =
 -- The group behind them.
 module _ (e : tie.After-group-end Inv-loop μ-loop) where
   abbrev fl : tie.After-fill Inv-loop μ-loop
-  fl = e .before .before .before .before .before .before .before .before .before .before
+  fl = e .before .before .before .before .before .before .before .before .before .before .before .before
 
   abbrev end : ℕ
   end = e .group-end .result
@@ -152,13 +153,13 @@ module _ (e : tie.After-group-end Inv-loop μ-loop) where
 
   -- the columns are long enough for it
   for-sizes : end - at fl ≤ length (l (u fl) .loop .sizes)
-  for-sizes = omega (arith, ends .within, inv fl .0, st fl .pre .1 .sizesLong)
+  for-sizes = omega (arith, inv fl .0, st fl .pre .1 .sizesLong (at fl) end ends)
 
   for-minimums : end - at fl ≤ length (l (u fl) .loop .minimums)
-  for-minimums = omega (arith, ends .within, inv fl .1, st fl .pre .1 .minimumsLong)
+  for-minimums = omega (arith, inv fl .1, st fl .pre .1 .minimumsLong (at fl) end ends)
 
   for-gets : end - at fl ≤ length (l (u fl) .loop .gets)
-  for-gets = omega (arith, ends .within, inv fl .2, st fl .pre .1 .getsLong)
+  for-gets = omega (arith, inv fl .2, st fl .pre .1 .getsLong (at fl) end ends)
 
   -- its keys
   abbrev slice : List ℕ
@@ -176,7 +177,7 @@ mul-share c = record { fits = omega (arith, before-end c, ends c .within, few c)
 
 share-requires : tie.Need-share-requires Inv-loop μ-loop
 share-requires c κs =
-    let e = c .before .before .before .before .before .before in
+    let e = c .before .before .before .before .before .before .before in
     let f = fl e in
     let a = st f .args in (
       rw (same-side e) (slice-book (a .book .now) (ks f) (a .lot .0) (a .algorithm) (a .incoming .taker) (start (l (u f))) (st f .pre .0) (ends e)),
@@ -191,8 +192,8 @@ share-requires c κs =
 
 loop-again : tie.Need-loop-again Inv-loop μ-loop
 loop-again c =
-    let h = c .before .before .before .before .before .before .before .before .before .before in
-    let e = h .before .before .before .before .before .before .before in
+    let h = c .before .before .before .before .before .before .before .before .before .before .before .before in
+    let e = h .before .before .before .before .before .before .before .before in
     let f = fl e in
     let a = st f .args in
     let k = h .share .kept .1 .1 .1 .1 .1 in (
@@ -206,7 +207,7 @@ loop-again c =
 
 loop-less : tie.Need-loop-less Inv-loop μ-loop
 loop-less c =
-    let e = c .before .before .before .before .before .before .before .before .before .before .before .before .before .before .before .before .before in
+    let e = c .before .before .before .before .before .before .before .before .before .before .before .before .before .before .before .before .before .before .before .before in
     omega (arith, ends e .some, ends e .within)
 
 pub allocate-spec : {M : Type 1} → statement M
@@ -215,12 +216,14 @@ allocate-spec =
     (tie.spec
     Inv-loop μ-loop loop-holds (λ c. search needs) (λ c. search needs) (λ c. search needs) (λ c. search needs) whole-requires add-whole
     (λ c. search needs) (λ c. search needs) (λ c. search needs) part-fill-end fill-requires
-    (λ c. inv (early c) .0) (λ c. inv (early c) .1) (λ c. inv (early c) .2) (λ c. way (early c) .credited .room) (λ c. way (early c) .credited .records) returns
-    (λ c. inv (late c) .0) (λ c. inv (late c) .1) (λ c. inv (late c) .2) (λ c. way (late c) .credited .room) (λ c. way (late c) .credited .records) returns-2
+    (λ c. inv (early c) .0) (λ c. inv (early c) .1) (λ c. inv (early c) .2) (λ c. way (early c) .credited .room) (λ c. way (early c) .credited .records shown)
+    (λ c. way (early c) .credited .records hidden) returns
+    (λ c. inv (late c) .0) (λ c. inv (late c) .1) (λ c. inv (late c) .2) (λ c. way (late c) .credited .room) (λ c. way (late c) .credited .records shown)
+    (λ c. way (late c) .credited .records hidden) returns-2
     group-end-requires mul-share (λ c. before-end c) (λ c. before-end c) (λ c. ends c .within)
     (λ c. before-end (c .before)) (λ c. for-sizes (c .before)) (λ c. sym (length-take-le _ _ (for-sizes (c .before .before))))
     (λ c. before-end (c .before .before)) (λ c. for-minimums (c .before .before)) (λ c. sym (length-take-le _ _ (for-minimums (c .before .before .before))))
     (λ c. before-end (c .before .before .before)) (λ c. for-gets (c .before .before .before)) (λ c. sym (length-take-le _ _ (for-gets (c .before .before .before .before))))
     share-requires loop-less loop-again
     (λ c. c .before .loop .inv .0) (λ c. c .before .loop .inv .1) (λ c. c .before .loop .inv .2) (λ c. c .before .loop .inv .3 .credited .room)
-    (λ c. c .before .loop .inv .3 .credited .records) returns-3)
+    (λ c. c .before .loop .inv .3 .credited .records shown) (λ c. c .before .loop .inv .3 .credited .records hidden) returns-3)

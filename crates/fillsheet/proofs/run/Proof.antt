@@ -7,7 +7,7 @@ use Rattle.fillsheet.proofs.run.Statement.{statement}
 use Rattle.fillsheet.proofs.run.Tie as tie
 
 abbrev Inv-loop : tie.InvT-loop
-Inv-loop sheet book₀ executions₀ algorithm₀ at₀ book executions algorithm at = (8192 ≡ length book) × (4096 ≡ length executions)
+Inv-loop sheet book₀ executions₀ algorithm₀ at₀ book executions algorithm at = (10240 ≡ length book) × (4096 ≡ length executions)
 
 abbrev μ-loop : tie.MeasureT-loop
 μ-loop sheet book₀ executions₀ algorithm₀ at₀ book executions algorithm at = length sheet - at

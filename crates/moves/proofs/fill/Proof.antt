@@ -7,7 +7,7 @@ use Rattle.moves.proofs.fill.Statement.{statement}
 use Rattle.moves.proofs.fill.Tie as tie
 
 abbrev Inv-loop : tie.InvT-loop
-Inv-loop book₀ k₀ book k = length book ≡ 8192
+Inv-loop book₀ k₀ book k = length book ≡ 10240
 
 abbrev μ-loop : tie.MeasureT-loop
 μ-loop book₀ k₀ book k = 256 - k

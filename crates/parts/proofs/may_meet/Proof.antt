@@ -14,7 +14,7 @@ returns c =
     let s = c .before .before .before .before .before .before .before .before .before in
     λ o h e.
     rw (c .before .before .before .rank-on .ensures, c .before .before .rank-on2 .ensures, c .before .before .before .before .before .number .ensures)
-    (meets-read (s .args .numbers) o e (s .args .incoming) (omega arith) (omega (arith, order-facts o h .price-most)))
+    (meets-read (s .args .numbers) o e (s .args .incoming) (omega (arith, s .good .1)) (omega (arith, order-facts o h .price-most)))
 
 pub may-meet-spec : {M : Type 1} → statement M
 may-meet-spec =

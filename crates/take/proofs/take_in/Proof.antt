@@ -1,5 +1,5 @@
 -- `take::take_in` meets its contract: what was allocated is the outcome, and is made.
-use Prim.Native.Nat.{ℕ, _≤_}
+use Prim.Native.Nat.{ℕ, _-_, _≤_}
 use mathlib.Core.Path.{_≡_, sym, _∙_}
 use mathlib.Core.List.{List}
 use native.Mathlib.Omega.{arith}
@@ -7,11 +7,13 @@ use borrow.Author.Needs.{needs}
 use lib.ListN.{length, take}
 use lib.Seq.{length-take-le}
 use Rattle.record.proofs.Numbers.{are-bytes}
+use Rattle.orders.specs.Order.{Visibility, shown, hidden}
 use Rattle.book.specs.Sound.{ordersOf}
 use Rattle.book.proofs.Checking.{sound-fits}
 use Rattle.parts.specs.Arranged.{Arranged}
+use Rattle.allocation.specs.Stretch.{Ends}
 use Rattle.allocation.specs.Credit.{Ledger, ledger}
-use Rattle.take.proofs.Deciding.{arranged-book, arranged-room, Decided, decided}
+use Rattle.take.proofs.Deciding.{arranged-book, arranged-room, arranged-groups, Decided, decided}
 use Rattle.take.proofs.Committing.{committed}
 use Rattle.take.proofs.Idle.{idle}
 use Rattle.take.proofs.take_in.Statement.{statement}
@@ -29,7 +31,7 @@ module _ (p : tie.After-arrange) where
   order = alg .before
 
   abbrev s : tie.Start
-  s = order .before .before .before .before .before .before .before .before .before
+  s = order .before .before .before .before .before .before .before .before .before .before
 
   abbrev keys : List ℕ
   keys = take (p .arrange .result) (p .arrange .last .1 .1 .1 .1 .1 .0)
@@ -46,46 +48,54 @@ module _ (p : tie.After-arrange) where
   few : length keys ≤ 512
   few = let f = sound-fits (s .args .book .now) (s .pre .0 .isSound) in omega (arith, long, p .arrange .ensures .0, s .pre .0 .counted)
 
+  -- no group of them is larger than the book
+  groups : (from end : ℕ) → Ends keys from end → end - from ≤ length (ordersOf (s .args .book .now))
+  groups =
+      let a = s .args in
+      let g = s .pre .0 in
+      arranged-groups (a .request) (a .book .now) (g .inRange) (g .isSound) (order .incoming-of .ensures) (alg .of .ensures) (lot .round-lot .ensures) arranged few
+
 returns : tie.Need-returns
 returns c =
     let p = c .before .before .before .before .before in
     let a = s p .args in
     let g = s p .pre .0 in
-    let b = are-bytes (a .book .now) (λ k. omega (arith, order p .before .before .before .before .before .before .before .before .slice-known .given k)) in
+    let b = are-bytes (a .book .now) (λ k. omega (arith, order p .before .before .before .before .before .before .before .before .before .slice-known .given k)) in
     idle (a .request) (a .book .now) (a .executions .now) (g .inRange) (g .isSound) b (order p .incoming-of .ensures) (alg p .of .ensures) (lot p .round-lot .ensures) (arranged p)
     (rw (c .if1 .taken))
 
 allocate-requires : tie.Need-allocate-requires
 allocate-requires c κs =
-    let p = c .before .before .before .before .before .before .before .before .before .before .before .before in
+    let p = c .before .before .before .before .before .before .before .before .before .before .before .before .before in
     let a = s p .args in
     let g = s p .pre .0 in
     let m = s p .pre .1 in
     let n = p .arrange .ensures .0 in (
       arranged-book (a .request) (a .book .now) (g .inRange) (g .isSound) (order p .incoming-of .ensures) (alg p .of .ensures) (lot p .round-lot .ensures) (arranged p) (few p),
       record {
-        sizesLong = omega (arith, long p, n, m .sizesLong);
-        minimumsLong = omega (arith, long p, n, m .minimumsLong);
-        getsLong = omega (arith, long p, n, m .getsLong);
+        sizesLong = λ from end g. omega (arith, groups p from end g, s p .pre .0 .counted, m .sizesLong);
+        minimumsLong = λ from end g. omega (arith, groups p from end g, s p .pre .0 .counted, m .minimumsLong);
+        getsLong = λ from end g. omega (arith, groups p from end g, s p .pre .0 .counted, m .getsLong);
       },
       arranged-room (a .request) (a .book .now) (g .inRange) (g .isSound) (order p .incoming-of .ensures) (alg p .of .ensures) (lot p .round-lot .ensures) (arranged p) (few p)
-          (omega (arith, long p, n, m .spareLong, p .arrange .kept .1 .1 .1 .1 .1 .1 .0)) (omega (arith, g .counted, m .allotmentLong)) (m .nothing),
+          (omega (arith, long p, n, m .spareLong, p .arrange .kept .1 .1 .1 .1 .1 .1 .0)) (λ v. omega (arith, g .counted, m .allotmentLong v)) (m .nothing),
     )
 
 -- Once they got their shares.
 module _ (d : tie.After-allocate) where
   abbrev p : tie.After-arrange
-  p = d .before .before .before .before .before .before .before .before .before .before .before .before .before
+  p = d .before .before .before .before .before .before .before .before .before .before .before .before .before .before
 
   abbrev st : tie.Start
   st = s p
 
   -- how far the order has come
   abbrev end : Ledger
-  end = ledger (d .allocate .result) (d .allocate .last .1 .1 .1 .1 .1 .1 .1 .1 .0) (d .allocate .last .1 .1 .1 .1 .1 .1 .1 .1 .1 .0)
+  end = ledger (d .allocate .result) (d .allocate .last .1 .1 .1 .1 .1 .1 .1 .1 .0) (d .allocate .last .1 .1 .1 .1 .1 .1 .1 .1 .1 .0) (d .allocate .last .1 .1 .1 .1 .1 .1 .1 .1 .1 .1 .0)
 
-  room : length (ordersOf (st .args .book .now)) ≤ length (end .allotment)
-  room = omega (arith, st .pre .0 .counted, st .pre .1 .allotmentLong, d .allocate .kept .1 .1 .1 .1 .1 .1 .1 .1 .1 .0)
+  room : (v : Visibility) → length (ordersOf (st .args .book .now)) ≤ length (end .allotment v)
+  room shown = omega (arith, st .pre .0 .counted, st .pre .1 .allotmentLong shown, d .allocate .kept .1 .1 .1 .1 .1 .1 .1 .1 .1 .0)
+  room hidden = omega (arith, st .pre .0 .counted, st .pre .1 .allotmentLong hidden, d .allocate .kept .1 .1 .1 .1 .1 .1 .1 .1 .1 .1 .0)
 
   done : Decided (st .args .request) (st .args .book .now) end
   done =
@@ -96,13 +106,13 @@ module _ (d : tie.After-allocate) where
 
 -- Where it is made as it was decided.
 abbrev allocated : tie.After-commit-arg2 → tie.After-allocate
-allocated c = c .before .before .before .before .before .before .before .before .before .before .before .before .before
+allocated c = c .before .before .before .before .before .before .before .before .before .before .before .before .before .before .before
 
-abbrev made : tie.After-slice-known17 → tie.After-commit
+abbrev made : tie.After-slice-known19 → tie.After-commit
 made c = c .before .before .before .before
 
-abbrev allocated-before : tie.After-slice-known17 → tie.After-allocate
-allocated-before c = allocated (made c .before .before .before)
+abbrev allocated-before : tie.After-slice-known19 → tie.After-allocate
+allocated-before c = allocated (made c .before .before .before .before)
 
 slice-aggregate-allocate : tie.Need-slice-aggregate-allocate
 slice-aggregate-allocate c = sym (long (c .before .before .before .before .before .before .before))
@@ -115,10 +125,10 @@ slice-aggregate-commit c = sym (length-take-le _ _ (done (allocated (c .before))
 
 commit-requires : tie.Need-commit-requires
 commit-requires c κs =
-    let d = allocated (c .before .before) in
+    let d = allocated (c .before .before .before) in
     let g = st d .pre .0 in
     let e = done d in
-    (g .isSound, g .counted, e .places, omega (arith, e .few, length-take-le (end d .progress .count) (end d .fills) (e .fits)), omega (arith, g .counted, room d))
+    (g .isSound, g .counted, e .places, omega (arith, e .few, length-take-le (end d .progress .count) (end d .fills) (e .fits)), omega (arith, g .counted, room d shown), omega (arith, g .counted, room d hidden))
 
 returns-2 : tie.Need-returns-2
 returns-2 c =
@@ -138,4 +148,4 @@ take-in-spec =
     (λ c. search needs) (λ c. search needs)
     (λ c. p (allocated-before c) .arrange .kept .1 .1 .1 .1 .1 .0)
     (λ c. allocated-before c .allocate .kept .1 .1 .1 .1 .1 .1 .1 .1 .0 ∙ p (allocated-before c) .arrange .kept .1 .1 .1 .1 .1 .1 .0)
-    (λ c. search needs) (λ c. search needs) (λ c. search needs) (λ c. search needs) returns-2)
+    (λ c. search needs) (λ c. search needs) (λ c. search needs) (λ c. search needs) (λ c. search needs) returns-2)

@@ -54,7 +54,7 @@ struct Stayed {
 
 impl Stayed {
     fn is_filled_in_part(&self) -> bool {
-        self.is.size < self.was.size
+        self.is.shares() < self.was.shares()
     }
 
     fn moved_as_it_was(&self) -> bool {

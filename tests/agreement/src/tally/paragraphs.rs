@@ -6,7 +6,7 @@ use model::Execution;
 use support::Coverage;
 
 /// The sorts of orders, and in which paragraph of each algorithm they have their
-/// turn.
+/// turn. A reserve order's parts are of the first four.
 const SORTS: [(&str, [u8; 3]); 6] = [
     ("displayed order of a lot or more", [2, 2, 2]),
     ("displayed order below a lot", [2, 3, 3]),
@@ -24,6 +24,10 @@ pub fn expect(coverage: &mut Coverage) {
             let paragraph = paragraphs[algorithm as usize - 1];
             coverage.expect(executed_in(sort, paragraph, algorithm));
         }
+        for (sort, paragraphs) in &SORTS[..4] {
+            let paragraph = paragraphs[algorithm as usize - 1];
+            coverage.expect(executed_in(&part_as(sort), paragraph, algorithm));
+        }
         coverage.expect(every_paragraph(algorithm));
         coverage.expect(lower_behind_higher(algorithm));
     }
@@ -32,6 +36,10 @@ pub fn expect(coverage: &mut Coverage) {
 
 fn executed_in(sort: &str, paragraph: u8, algorithm: u32) -> String {
     format!("take: {sort} in paragraph {paragraph} by algorithm {algorithm}")
+}
+
+fn part_as(sort: &str) -> String {
+    format!("reserve order's part as a {sort}")
 }
 
 fn every_paragraph(algorithm: u32) -> String {
@@ -44,20 +52,21 @@ fn lower_behind_higher(algorithm: u32) -> String {
     )
 }
 
-/// The paragraph in which an order has its turn.
-pub fn paragraph_of(order: &Order, algorithm: u32) -> u8 {
-    let (_, paragraphs) = SORTS[sort_of(order)];
+/// The paragraph in which a part of an order has its turn.
+pub fn paragraph_of(part: &Order, algorithm: u32) -> u8 {
+    let (_, paragraphs) = SORTS[sort_of(part)];
     paragraphs[algorithm as usize - 1]
 }
 
-/// The place of an order's sort.
-fn sort_of(order: &Order) -> usize {
-    let first = match order.kind {
+/// The place of a part's sort.
+fn sort_of(part: &Order) -> usize {
+    let first = match part.kind {
         Kind::Displayed => 0,
         Kind::NonDisplayed => 2,
         Kind::MinimumQuantity { .. } => 4,
+        Kind::Reserve { .. } => unreachable!("a reserve order's parts are of other kinds"),
     };
-    first + usize::from(order.size < ROUND_LOT)
+    first + usize::from(part.size < ROUND_LOT)
 }
 
 /// Notes what the executions of a take name, from a book that has these orders
@@ -79,8 +88,15 @@ pub fn note(coverage: &mut Coverage, take: &Take, before: &[Order]) {
 
 fn note_sorts(coverage: &mut Coverage, take: &Take, before: &[Order]) {
     for execution in &take.executions {
-        let (sort, _) = SORTS[sort_of(order_of(execution, before))];
-        coverage.note(executed_in(sort, execution.paragraph, take.algorithm));
+        let order = order_of(execution, before);
+        let in_paragraph = |part: &Order| paragraph_of(part, take.algorithm) == execution.paragraph;
+        let part = order.parts().into_iter().find(in_paragraph);
+        let (sort, _) = SORTS[sort_of(&part.expect("executions are of parts"))];
+        let sort = match order.kind {
+            Kind::Reserve { .. } => part_as(sort),
+            _ => String::from(sort),
+        };
+        coverage.note(executed_in(&sort, execution.paragraph, take.algorithm));
     }
 }
 

@@ -76,7 +76,7 @@ fn by_plain_sharing(entry: &Entry, before: &[Order]) -> Take {
     if let Call::Take([.., algorithm]) = &mut entry.call {
         *algorithm = 2;
     }
-    entry.executions = vec![0; before.len() * model::EXECUTION_LENGTH];
+    entry.executions = vec![0; 2 * before.len() * model::EXECUTION_LENGTH];
     Take::new(&entry, &compare::by_model(&entry), before)
 }
 

@@ -51,12 +51,13 @@ pub struct Take {
     size: u32,
     pub algorithm: u32,
     pub executions: Vec<Execution>,
-    /// The orders that it may trade with, in groups, as their turns come.
+    /// The parts of orders that it may trade with, in groups, as their turns come.
     pub groups: Vec<Group>,
     fits_exactly: bool,
     left: usize,
-    /// How many orders the book has at entry.
+    /// How many orders the book has at entry, and how many of them left.
     orders: usize,
+    gone: usize,
 }
 
 impl Take {
@@ -69,16 +70,18 @@ impl Take {
         let [_, count, left] = outcome.numbers;
         let executions = model::read_executions(&outcome.executions, count as u32);
         let may_trade = |order: &&Order| order.side != side && side.within(limit, order.price);
-        let opposite = before.iter().filter(may_trade).copied().collect();
+        let parts = before.iter().filter(may_trade).flat_map(Order::parts);
+        let (_, resting) = model::check(&outcome.book);
         Take {
             side,
             size,
             algorithm,
-            groups: groups::in_turn(opposite, &executions, size, algorithm),
+            groups: groups::in_turn(parts.collect(), &executions, size, algorithm),
             executions,
             fits_exactly: count > 0 && entry.executions.len() == count * EXECUTION_LENGTH,
             left,
             orders: before.len(),
+            gone: before.len() - resting as usize,
         }
     }
 
@@ -86,8 +89,7 @@ impl Take {
         if self.passes_over_minimum() {
             coverage.note(passed_over_by(self.algorithm));
         }
-        let filled: usize = self.groups.iter().map(Group::filled).sum();
-        let emptied = self.orders > 1 && 2 * filled >= self.orders;
+        let emptied = self.orders > 1 && 2 * self.gone >= self.orders;
         coverage.note_if(emptied, "take: half the book's orders or more filled");
         coverage.note_if(self.fits_exactly, "take: executions fit exactly");
         let executed = self.groups.iter().any(|group| group.executed() > 0);

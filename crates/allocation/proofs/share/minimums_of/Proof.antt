@@ -40,7 +40,7 @@ module _ (c : tie.After-place Inv-loop μ-loop) where
         every-at (λ k. placeIn k < length (ordersOf (s .args .book .now))) (s .args .keys .now) (s .pre .1) (c .before .before .before .loop .k) (omega arith),
       )
 
-  lies : 32 * c .place .result + 32 ≤ length (s .args .book .now)
+  lies : 40 * c .place .result + 40 ≤ length (s .args .book .now)
   lies = let f = sound-fits (s .args .book .now) (s .pre .2) in omega (arith, inside)
 
   below : c .place .result < 256

@@ -17,7 +17,7 @@ use Rattle.allocation.proofs.share.share.Tie as tie
 
 shared-slice-read-paragraph : tie.Need-shared-slice-read-paragraph
 shared-slice-read-paragraph c =
-    let s = c .before .before .before .before .before .before .before .before .before in
+    let s = c .before .before .before .before .before .before .before .before .before .before in
     omega (arith, ap length (s .pre .2 .are))
 
 -- Once the columns are made.
@@ -29,7 +29,7 @@ module _ (n : tie.After-needs) where
   m = z .before .before
 
   abbrev st : tie.Start
-  st = m .before .before .before .before .before .before .before .before .before .before .before .before
+  st = m .before .before .before .before .before .before .before .before .before .before .before .before .before
 
   abbrev way : Method
   way = m .method .result
@@ -40,7 +40,7 @@ module _ (n : tie.After-needs) where
 
 needs-requires : tie.Need-needs-requires
 needs-requires c κs =
-    let s = c .before .before .before .before .before .before .before .before .before .before .before .before .before .before .before .before .before in
+    let s = c .before .before .before .before .before .before .before .before .before .before .before .before .before .before .before .before .before .before in
     (s .pre .1 .forMinimums, every-weaken (λ k w. w .within) (s .args .keys .now) (s .pre .0 .ready .each), s .pre .0 .isSound)
 
 divide-requires : tie.Need-divide-requires
@@ -67,7 +67,7 @@ module _ (d : tie.After-divide) where
 
 credit-requires : tie.Need-credit-requires
 credit-requires c κs =
-    let d = c .before .before .before .before .before .before .before .before .before in (
+    let d = c .before .before .before .before .before .before .before .before .before .before in (
       s d .pre .3,
       d .divide .kept .1 .1 .1 .1 .1 .1 .1 .0 ∙ s d .pre .1 .forGets,
       omega (arith, ap sum (got d), shared-within (s d .args .from .incoming .taker) (s d .pre .0) (s d .pre .2)),
@@ -75,9 +75,15 @@ credit-requires c κs =
 
 returns : tie.Need-returns
 returns c =
-    let k = c .before .before .before .before in
-    let d = k .before .before .before .before .before .before .before .before .before .before in
+    let k = c .before .before .before .before .before .before in
+    let d = k .before .before .before .before .before .before .before .before .before .before .before in
     rw (sym (got d)) (k .credit .ensures)
+
+-- the sizes are as many as were lent
+same-length : tie.Need-same-length
+same-length c =
+    let d = c .before .before .before .before .before .before .before .before .before .before .before .before .before .before .before .before .before in
+    d .divide .kept .1 .0 ∙ z (n d) .sizes-of .kept .1 .0
 
 pub share-spec : {M : Type 1} → statement M
 share-spec =
@@ -85,4 +91,4 @@ share-spec =
     (tie.spec
     shared-slice-read-paragraph (λ c κs. search needs) (λ c κs. search needs) (λ c κs. search needs) (λ c κs. search needs) needs-requires divide-requires
     credit-requires
-    (λ c. search needs) (λ c. search needs) (λ c. search needs) (λ c. search needs) (λ c. search needs) returns)
+    same-length (λ c. search needs) (λ c. search needs) (λ c. search needs) (λ c. search needs) (λ c. search needs) returns)

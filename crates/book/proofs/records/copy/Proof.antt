@@ -12,12 +12,12 @@ use Rattle.record.proofs.Pasting.{replaced-all}
 use Rattle.book.proofs.records.copy.Statement.{statement}
 use Rattle.book.proofs.records.copy.Tie as tie
 
--- 32 bytes from a place on, put in the place of as many
-read : (from : ℕ) (s old : List ℕ) → from + 32 ≤ length s → length old ≡ 32
-    → replaced 0 (take (from + 32 - from) (drop from s)) old ≡ take 32 (drop from s)
+-- 40 bytes from a place on, put in the place of as many
+read : (from : ℕ) (s old : List ℕ) → from + 40 ≤ length s → length old ≡ 40
+    → replaced 0 (take (from + 40 - from) (drop from s)) old ≡ take 40 (drop from s)
 read from s old h e =
-    let l = length-take-le 32 (drop from s) (omega (arith, length-drop from s)) in
-    rw (add-sub-cancel-left from 32) (replaced-all (take 32 (drop from s)) old (omega arith))
+    let l = length-take-le 40 (drop from s) (omega (arith, length-drop from s)) in
+    rw (add-sub-cancel-left from 40) (replaced-all (take 40 (drop from s)) old (omega arith))
 
 returns : tie.Need-returns
 returns c =

@@ -10,13 +10,13 @@ use Rattle.book.proofs.records.move_up.Statement.{statement}
 use Rattle.book.proofs.records.move_up.Tie as tie
 
 abbrev Inv-loop : tie.InvT-loop
-Inv-loop book₀ at n i₀ book i = (i ≤ n) × (book ≡ paste book₀ at (drop (at + 32) book₀) i)
+Inv-loop book₀ at n i₀ book i = (i ≤ n) × (book ≡ paste book₀ at (drop (at + 40) book₀) i)
 
 abbrev μ-loop : tie.MeasureT-loop
 μ-loop book₀ at n i₀ book i = n - i
 
 loop-holds : tie.Need-loop-holds Inv-loop μ-loop
-loop-holds c = let s = c .args .book .now in (search needs, paste-zero s (c .args .at) (drop (c .args .at + 32) s))
+loop-holds c = let s = c .args .book .now in (search needs, paste-zero s (c .args .at) (drop (c .args .at + 40) s))
 
 -- the book is as long as it was
 kept : (c : tie.At-loop Inv-loop μ-loop) → length (c .loop .book) ≡ length (c .before .args .book .now)

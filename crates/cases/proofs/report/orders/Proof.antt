@@ -6,7 +6,7 @@ use Rattle.cases.proofs.report.orders.Statement.{statement}
 use Rattle.cases.proofs.report.orders.Tie as tie
 
 abbrev Inv-loop : tie.InvT-loop
-Inv-loop book count n i₀ i = 32 * n ≤ length book
+Inv-loop book count n i₀ i = 40 * n ≤ length book
 
 abbrev μ-loop : tie.MeasureT-loop
 μ-loop book count n i₀ i = n - i

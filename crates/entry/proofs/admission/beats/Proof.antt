@@ -1,13 +1,16 @@
 -- `entry::admission::beats` meets its contract: its three tests are those of the definition.
 use borrow.Author.Needs.{needs}
+use lib.ListN.{getD}
+use Rattle.record.specs.Record.{orderOf}
+use Rattle.orders.proofs.KindTests.{other-test}
 use Rattle.entry.proofs.admission.beats.Statement.{statement}
 use Rattle.entry.proofs.admission.beats.Tie as tie
 
 returns : tie.Need-returns
+unfolding orderOf
 returns c =
-    rw (c .is-priced-better .ensures, c .before .is-displayed .ensures, c .before .before .is-opposite .ensures)
+    let o = c .before .before .before in
+    λ ns e. rw (c .is-priced-better .ensures, o .is-opposite .ensures, o .before .of .ensures, e, other-test (getD ns 1 0) (getD ns 5 0) (getD ns 10 0) (getD ns 11 0))
 
 pub beats-spec : {M : Type 1} → statement M
-beats-spec =
-    tie.close
-    (tie.spec (λ c κs. search needs) (λ c κs. search needs) (λ c κs. search needs) returns)
+beats-spec = tie.close (tie.spec (λ c κs. search needs) (λ c κs. search needs) (λ c κs. search needs) returns)

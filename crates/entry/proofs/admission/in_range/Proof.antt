@@ -5,12 +5,15 @@ use Rattle.entry.proofs.admission.in_range.Tie as tie
 
 returns : tie.Need-returns
 returns c =
-    let e = c .before in
+    let r = c .before .before in
+    let m = r .before in
+    let e = m .before in
     let d = e .before in
     let b = d .before in
     let a = b .before in
     rw (
-      c .minimum-in-range .ensures,
+      r .reserve-in-range .ensures,
+      m .minimum-in-range .ensures,
       e .shares-in-range .ensures,
       d .price-in-range .ensures,
       b .number-in-range .ensures,
@@ -23,4 +26,4 @@ in-range-spec =
     tie.close
     (tie.spec
     (λ c κs. search needs) (λ c κs. search needs) (λ c κs. search needs) (λ c κs. search needs) (λ c κs. search needs)
-    (λ c κs. search needs) returns)
+    (λ c κs. search needs) (λ c κs. search needs) returns)

@@ -1,9 +1,9 @@
 -- `entry::reduction::decide` meets its contract, refusal by refusal.
-use mathlib.Core.Path.{_∙_}
-use native.Mathlib.Omega.{arith}
+use mathlib.Core.Path.{sym, _∙_}
 use borrow.Author.Needs.{needs}
+use borrow.Author.Tests.{leb-true, leb-false, not-true, not-false}
 use Rattle.units.proofs.Tests.{and-true}
-use Rattle.orders.specs.Order.{numberInRange, sharesInRange}
+use Rattle.orders.specs.Order.{interestOf, allShares, numberInRange, sharesInRange}
 use Rattle.entry.proofs.ReducePlan.{find-refused, order-inside, too-much-refused, order-reduced}
 use Rattle.entry.proofs.reduction.decide.Statement.{statement}
 use Rattle.entry.proofs.reduction.decide.Tie as tie
@@ -29,24 +29,27 @@ order-at-requires c κs =
 
 returns-2 : tie.Need-returns-2
 returns-2 c =
-    let o = c .before .before .before in
+    let m = c .before in
+    let o = m .before in
     let f = o .before .before in
     let t = f .before .before in
     let a = t .args in
+    let l = leb-false (a .shares) (allShares (interestOf (o .order-at .result))) (sym (m .has .ensures) ∙ not-true _ (c .if2 .taken)) in
     too-much-refused (a .number) (a .shares) (a .book .now) (t .pre .0) _ (f .locate-checked .ensures .0) (o .before .if1 .left) _
-    (o .order-at .ensures) (omega (arith, c .before .before .shares .ensures))
+    (o .order-at .ensures) l
 
 returns-3 : tie.Need-returns-3
 returns-3 c =
-    let m = c .before in
-    let o = m .before .before .before .before in
+    let d = c .before in
+    let m = d .before .before in
+    let o = m .before in
     let f = o .before .before in
     let t = f .before .before in
     let a = t .args in
-    let l = m .before .before .before .shares .ensures in
+    let l = leb-true (a .shares) (allShares (interestOf (o .order-at .result))) (sym (m .has .ensures) ∙ not-false _ (d .before .if2 .left)) in
     c .outcome .ensures
     ∙ order-reduced (a .number) (a .shares) (a .book .now) (t .pre .0) _ (f .locate-checked .ensures .0) (o .before .if1 .left) _
-    (o .order-at .ensures) (omega (arith, l)) _ (m .reduced .ensures)
+    (o .order-at .ensures) l _ (d .reduced .ensures)
 
 pub decide-spec : {M : Type 1} → statement M
 decide-spec =

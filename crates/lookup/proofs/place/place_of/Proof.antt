@@ -12,7 +12,7 @@ use Rattle.lookup.proofs.place.place_of.Tie as tie
 
 abbrev Inv-loop : tie.InvT-loop
 Inv-loop book n number at₀ left₀ place₀ at left place =
-    (at + 32 * left ≤ length book)
+    (at + 40 * left ≤ length book)
     × (place + left ≡ n)
     × (place + placeOf number (firstOrders left (drop at book)) ≡ placeOf number (firstOrders n book))
 

@@ -13,7 +13,7 @@ use Rattle.lookup.proofs.setters.count_marked.Tie as tie
 
 abbrev Inv-loop : tie.InvT-loop
 Inv-loop book n count₀ at₀ left₀ count at left =
-    (at + 32 * left ≤ length book)
+    (at + 40 * left ≤ length book)
     × (count + left ≤ n)
     × (count + markedIn (firstOrders left (drop at book)) ≡ markedIn (firstOrders n book))
 

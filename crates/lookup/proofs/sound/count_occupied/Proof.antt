@@ -11,8 +11,8 @@ use Rattle.lookup.proofs.sound.count_occupied.Tie as tie
 
 abbrev Inv-loop : tie.InvT-loop
 Inv-loop book at₀ left₀ n₀ at left n =
-    (at ≡ 32 * n)
-    × (at + 32 * left ≤ length book)
+    (at ≡ 40 * n)
+    × (at + 40 * left ≤ length book)
     × (n + length (occupied (firstRecords form left (drop at book))) ≡ length (occupied (recordsIn form book)))
 
 abbrev μ-loop : tie.MeasureT-loop

@@ -16,7 +16,7 @@ returns c =
     rw (
       c .are-apart .ensures,
       r .numbers-rise .ensures,
-      z .zeros .ensures ∙ ap (all isZero) (take-rest (32 * a .n) (a .book .now)),
+      z .zeros .ensures ∙ ap (all isZero) (take-rest (40 * a .n) (a .book .now)),
       p .records-sound .ensures,
     )
 

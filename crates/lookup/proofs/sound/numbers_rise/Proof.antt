@@ -11,7 +11,7 @@ use Rattle.lookup.proofs.sound.numbers_rise.Tie as tie
 
 abbrev Inv-loop : tie.InvT-loop
 Inv-loop book n rose₀ at₀ left₀ last₀ rose at left last =
-    (at + 32 * left ≤ length book) × ((rose && rising last (firstOrders left (drop at book))) ≡ rising 0 (firstOrders n book))
+    (at + 40 * left ≤ length book) × ((rose && rising last (firstOrders left (drop at book))) ≡ rising 0 (firstOrders n book))
 
 abbrev μ-loop : tie.MeasureT-loop
 μ-loop book n rose₀ at₀ left₀ last₀ rose at left last = left

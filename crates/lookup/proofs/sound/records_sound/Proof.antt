@@ -14,7 +14,7 @@ use Rattle.lookup.proofs.sound.records_sound.Tie as tie
 
 abbrev Inv-loop : tie.InvT-loop
 Inv-loop book n sound₀ at₀ left₀ sound at left =
-    (at + 32 * left ≤ length book)
+    (at + 40 * left ≤ length book)
     × ((sound && all (recordSound form) (firstRecords form left (drop at book))) ≡ all (recordSound form) (firstRecords form n book))
 
 abbrev μ-loop : tie.MeasureT-loop

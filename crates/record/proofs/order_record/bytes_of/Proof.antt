@@ -1,11 +1,11 @@
 -- `record::order_record::bytes_of` meets its contract.
 use Prim.Native.Nat.{_%_}
-use mathlib.Core.Path.{_≡_, refl}
+use mathlib.Core.Path.{_≡_, refl, _∙_}
 use mathlib.Core.Bool.{Bool, true, false}
 use borrow.Author.Needs.{needs}
 use Rattle.units.specs.Lists.{orZero}
 use Rattle.orders.specs.declared.order.Kind.{Kind}
-use Rattle.orders.specs.declared.order.Kind.the-variants.{Displayed, NonDisplayed, MinimumQuantity}
+use Rattle.orders.specs.declared.order.Kind.the-variants.{Displayed, NonDisplayed, MinimumQuantity, Reserve}
 use Rattle.orders.specs.Order.{kindNumber}
 use Rattle.record.specs.Codec.{encode}
 use Rattle.record.specs.Record.{numbersOf}
@@ -18,6 +18,7 @@ kind-byte : (k : Kind) → kindNumber k % 256 ≡ kindNumber k
 kind-byte Displayed = refl
 kind-byte NonDisplayed = refl
 kind-byte (MinimumQuantity m) = refl
+kind-byte (Reserve h r) = refl
 
 mark-byte : (b : Bool) → orZero b 1 % 256 ≡ orZero b 1
 mark-byte true = refl
@@ -26,20 +27,31 @@ mark-byte false = refl
 returns : tie.Need-returns
 unfolding encode numbersOf
 returns c =
-    let m = c .before in
+    let p = c .before in
+    let r = p .before .before .before in
+    let w = r .before in
+    let h = w .before in
+    let v = h .before in
+    let f = v .before in
+    let m = f .before in
     let l = m .before in
     let z = l .before in
-    let p = z .before in
-    let n = p .before in
+    let q = z .before in
+    let n = q .before in
     let k = n .before in
     let s = k .before in
     let o = s .before .args .order in
+    p .put .ensures ∙
     simp (
-      c .mark .ensures,
+      r .u32-bytes6 .ensures,
+      w .refresh .ensures,
+      h .u32-bytes5 .ensures,
+      v .hidden .ensures,
+      f .mark .ensures,
       m .u32-bytes4 .ensures,
       l .minimum .ensures,
       z .u32-bytes3 .ensures,
-      p .u32-bytes2 .ensures,
+      q .u32-bytes2 .ensures,
       n .u32-bytes .ensures,
       k .number2 .ensures,
       s .number .ensures,
@@ -52,8 +64,12 @@ pub bytes-of-spec : {M : Type 1} → statement M
 bytes-of-spec =
     tie.close
     (tie.spec
-    (λ c κs. search needs) (λ c κs. search needs) (λ c κs. search needs) (λ c κs. search needs) (λ c κs. search needs)
-    (λ c κs. search needs) (λ c κs. search needs) (λ c κs. search needs) (λ c. search needs) (λ c. search needs)
-    (λ c. search needs) (λ c. search needs) (λ c. search needs) (λ c. search needs) (λ c. search needs) (λ c. search needs)
-    (λ c. search needs) (λ c. search needs) (λ c. search needs) (λ c. search needs) (λ c. search needs) (λ c. search needs)
-    (λ c. search needs) (λ c. search needs) returns)
+    (λ c κs. search needs) (λ c κs. search needs) (λ c κs. search needs) (λ c κs. search needs)
+    (λ c κs. search needs) (λ c κs. search needs) (λ c κs. search needs) (λ c κs. search needs)
+    (λ c κs. search needs) (λ c κs. search needs) (λ c κs. search needs) (λ c κs. search needs) (λ c. search needs)
+    (λ c. search needs) (λ c. search needs) (λ c. search needs) (λ c. search needs) (λ c. search needs)
+    (λ c. search needs) (λ c. search needs) (λ c. search needs) (λ c. search needs) (λ c. search needs)
+    (λ c. search needs) (λ c. search needs) (λ c. search needs) (λ c. search needs) (λ c. search needs)
+    (λ c. search needs) (λ c. search needs) (λ c. search needs) (λ c. search needs) (λ c. search needs)
+    (λ c. search needs) (λ c. search needs) (λ c. search needs) (λ c. search needs) (λ c. search needs)
+    (λ c κs. search needs) returns)

@@ -7,7 +7,9 @@ use Rattle.record.proofs.order_record.numbers_of.Tie as tie
 
 returns : tie.Need-returns
 returns c =
-    let m = c .before in
+    let h = c .before in
+    let e = h .before in
+    let m = e .before in
     let z = m .before in
     let p = z .before in
     let n = p .before in
@@ -15,7 +17,9 @@ returns c =
     let d = k .before in
     let s = d .before .before .before .before .before .args .rec .now in
     rw (
-      c .wide3 .ensures .0,
+      c .read-u326 .ensures,
+      h .read-u325 .ensures,
+      e .wide3 .ensures .0,
       m .read-u324 .ensures,
       z .read-u323 .ensures,
       p .read-u322 .ensures,
@@ -34,4 +38,4 @@ numbers-of-spec =
     (tie.spec
     (λ c. search needs) (λ c. search needs) (λ c. search needs) (λ c κs. search needs) (λ c κs. search needs)
     (λ c κs. search needs) (λ c κs. search needs) (λ c κs. search needs) (λ c κs. search needs) (λ c κs. search needs)
-    returns)
+    (λ c κs. search needs) (λ c κs. search needs) returns)

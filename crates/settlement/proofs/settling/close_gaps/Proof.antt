@@ -16,7 +16,7 @@ abbrev μ-loop : tie.MeasureT-loop
 μ-loop part₀ n shown hidden i₀ kept₀ moves₀ part i kept moves = n - i
 
 -- the n records lie in the bytes
-room : (c : tie.At-loop Inv-loop μ-loop) → 32 * c .before .before .before .before .args .n ≤ length (c .loop .part)
+room : (c : tie.At-loop Inv-loop μ-loop) → 40 * c .before .before .before .before .args .n ≤ length (c .loop .part)
 room c = let p = c .loop .inv .0 in omega (arith, p .begun .room, p .bytes .long)
 
 loop-holds : tie.Need-loop-holds Inv-loop μ-loop

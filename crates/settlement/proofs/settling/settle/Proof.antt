@@ -23,7 +23,7 @@ abbrev μ-loop : tie.MeasureT-loop
 μ-loop book₀ n shown hidden i₀ book i = n - i
 
 -- the n records lie in the book
-room : (c : tie.At-loop Inv-loop μ-loop) → 32 * c .before .before .before .before .args .n ≤ length (c .loop .book)
+room : (c : tie.At-loop Inv-loop μ-loop) → 40 * c .before .before .before .before .args .n ≤ length (c .loop .book)
 room c = let p = c .loop .inv in omega (arith, p .begun .room, p .bytes .long)
 
 -- bytes in the place of all from a place on
@@ -46,14 +46,14 @@ close-gaps-requires c κs =
     let a = l .before .before .before .before .args in
     let p = l .loop .inv in
     let h : l .loop .i < a .n = search needs in
-    rw (take-rest (32 * l .loop .i) (l .loop .book), take-rest (l .loop .i) (a .shown .now), take-rest (l .loop .i) (a .hidden .now))
+    rw (take-rest (40 * l .loop .i) (l .loop .book), take-rest (l .loop .i) (a .shown .now), take-rest (l .loop .i) (a .hidden .now))
     (records-behind p h, omega arith, ap isResting (first-behind-left p h) ∙ sym (t .before .stays .ensures) ∙ not-true (t .before .stays .result) (t .if1 .taken))
 
 same-length : tie.Need-same-length Inv-loop μ-loop
 same-length c =
     let r = c .before .before in
     let l = r .before .before .before .before .before .before .before .before .before .before in
-    let at = 32 * l .loop .i in
+    let at = 40 * l .loop .i in
     same-len-mid at (length (l .loop .book) - at) (l .loop .book) (r .close-gaps .last .0) (r .close-gaps .kept .0) ∙ l .loop .inv .bytes .long
 
 returns : tie.Need-returns Inv-loop μ-loop
@@ -65,7 +65,7 @@ returns c =
     let s = k .before in
     let a = s .args in
     let b = l .loop .book in
-    let at = 32 * l .loop .i in
+    let at = 40 * l .loop .i in
     let p = l .loop .inv in
     let h = g .loop-test .taken in
     let e = rw (take-rest at b, take-rest (l .loop .i) (a .shown .now), take-rest (l .loop .i) (a .hidden .now)) at (r .close-gaps .ensures) in

@@ -1,7 +1,14 @@
 -- `settlement::settling::stays` meets its contract: an order that loses nothing still rests.
-use mathlib.Core.Path.{ap, sym, _∙_}
+use mathlib.Core.Path.{sym, ap, _∙_}
+use lib.ListN.{take, drop}
 use borrow.Author.Needs.{needs}
-use Rattle.orders.specs.Order.{interest, settled, isResting}
+use Rattle.units.proofs.Tests.{and-true}
+use Rattle.record.specs.Codec.{decode, hasMark}
+use Rattle.record.specs.Record.{decodeOrder, numbersSound}
+use Rattle.record.specs.Names.{namedNumbers}
+use Rattle.record.proofs.Forms.{length-decode}
+use Rattle.record.proofs.Rows.{numbers-order}
+use Rattle.book.specs.Sound.{form}
 use Rattle.settlement.proofs.Losing.{rests-same}
 use Rattle.settlement.proofs.settling.stays.Statement.{statement}
 use Rattle.settlement.proofs.settling.stays.Tie as tie
@@ -9,8 +16,12 @@ use Rattle.settlement.proofs.settling.stays.Tie as tie
 returns : tie.Need-returns
 returns c =
     let o = c .before in
-    let a = o .before .before .before .before .args in
-    c .rests-after .ensures ∙ ap (λ x. isResting (settled (interest (a .shown .0) (a .hidden .0)) x)) (o .order-at .ensures)
+    let s = o .before .before .before .before in
+    let r = take 40 (drop (s .args .at) (s .args .book .now)) in
+    c .rests-after .ensures (decodeOrder form r)
+    (o .numbers-at .ensures
+    ∙ ap namedNumbers
+    (sym (numbers-order (decode form r) (and-true (hasMark form r) (numbersSound (decode form r)) (s .pre .1) .1) (length-decode form r))))
 
 returns-2 : tie.Need-returns-2
 returns-2 c =
