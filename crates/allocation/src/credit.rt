@@ -31,7 +31,7 @@ fn note_part(key: u64, shares: Shares, last: u8, shown: &mut [u32], hidden: &mut
         → seen v (now (shown .exit)) (now (hidden .exit)) ≡ noted alg v key (shares .0) (seen v (now (shown .entry)) (now (hidden .entry)))) ⌝ }
 {
     let place = key::place(key);
-    if key::paragraph(key) <= last {
+    if key::stands_up_to(key, last) {
         note(shown, place, shares);
     } else {
         note(hidden, place, shares);

@@ -138,6 +138,38 @@ visible-worked : allOf (λ b. b) visible ≡ true
 unfolding visible hides least
 visible-worked = refl
 
+parts : List Bool
+parts =
+    eqb (partKey 100 ProRata Buy hidden 5 (order Sell NonDisplayed 100100 50)) (keyOf 100100 6 5 50) ∷
+    eqb (partKey 50 ProRata Buy hidden 5 (order Sell NonDisplayed 100100 50)) (keyOf 100100 4 5 50) ∷
+    eqb (partKey 100 PriceTime Sell hidden 5 (order Buy NonDisplayed 100100 50)) (keyOf 4294867195 3 5 50) ∷
+    -- a reserve order's two, each of its own size
+    eqb (partKey 100 ProRata Buy shown 5 (order Sell (hides 80) 100100 120)) (keyOf 100100 2 5 120) ∷
+    eqb (partKey 100 ProRata Buy hidden 5 (order Sell (hides 80) 100100 120)) (keyOf 100100 6 5 80) ∷ []
+
+parts-worked : allOf (λ b. b) parts ≡ true
+unfolding parts order hides
+parts-worked = refl
+
+-- which parts of an order a buy may meet: those that it has, where its price is within the limit
+offered : List Bool
+offered =
+    offers (incoming Buy 100100) shown (order Sell (hides 80) 100100 120) ∷
+    offers (incoming Buy 100100) hidden (order Sell (hides 80) 100100 120) ∷
+    not (offers (incoming Buy 100100) hidden (order Sell (hides 0) 100100 120)) ∷
+    not (offers (incoming Buy 100100) shown (order Sell NonDisplayed 100100 120)) ∷
+    not (offers (incoming Buy 100099) shown (order Sell (hides 80) 100100 120)) ∷
+    -- whom a sell may meet: the other side, at or above the limit, with a minimum of 300 at most
+    mayMeet (incoming Sell 100100) (order Buy Displayed 100100 50) ∷
+    mayMeet (incoming Sell 100100) (order Buy (least 300) 100200 400) ∷
+    not (mayMeet (incoming Sell 100100) (order Sell Displayed 100100 50)) ∷
+    not (mayMeet (incoming Sell 100100) (order Buy Displayed 100099 50)) ∷
+    not (mayMeet (incoming Sell 100100) (order Buy (least 301) 100200 400)) ∷ []
+
+offered-worked : allOf (λ b. b) offered ≡ true
+unfolding offered order least hides incoming
+offered-worked = refl
+
 -- a displayed sell, a non-displayed one below a lot at the limit, a buy, a sell above the limit, a minimum that is just met, one that isn't,
 -- and two reserve orders, one of which hides nothing
 orders : List Order
@@ -151,35 +183,18 @@ orders =
     order Sell (hides 80) 100050 120 ∷
     order Sell (hides 0) 100000 30 ∷ []
 
-parts : List Bool
-parts =
-    eqb (partKey 100 ProRata Buy hidden 5 (order Sell NonDisplayed 100100 50)) (keyOf 100100 6 5 50) ∷
-    eqb (partKey 50 ProRata Buy hidden 5 (order Sell NonDisplayed 100100 50)) (keyOf 100100 4 5 50) ∷
-    eqb (partKey 100 PriceTime Sell hidden 5 (order Buy NonDisplayed 100100 50)) (keyOf 4294867195 3 5 50) ∷
-    -- a reserve order's two, each of its own size
-    eqb (partKey 100 ProRata Buy shown 5 (order Sell (hides 80) 100100 120)) (keyOf 100100 2 5 120) ∷
-    eqb (partKey 100 ProRata Buy hidden 5 (order Sell (hides 80) 100100 120)) (keyOf 100100 6 5 80) ∷
-    offers (incoming Buy 100100) shown (order Sell (hides 80) 100100 120) ∷
-    offers (incoming Buy 100100) hidden (order Sell (hides 80) 100100 120) ∷
-    not (offers (incoming Buy 100100) hidden (order Sell (hides 0) 100100 120)) ∷
-    not (offers (incoming Buy 100100) shown (order Sell NonDisplayed 100100 120)) ∷
-    not (offers (incoming Buy 100099) shown (order Sell (hides 80) 100100 120)) ∷
-    -- whom a sell may meet: the other side, at or above the limit, with a minimum of 300 at most
-    mayMeet (incoming Sell 100100) (order Buy Displayed 100100 50) ∷
-    mayMeet (incoming Sell 100100) (order Buy (least 300) 100200 400) ∷
-    not (mayMeet (incoming Sell 100100) (order Sell Displayed 100100 50)) ∷
-    not (mayMeet (incoming Sell 100100) (order Buy Displayed 100099 50)) ∷
-    not (mayMeet (incoming Sell 100100) (order Buy (least 301) 100200 400)) ∷
-    -- the parts that a buy may meet, each with the place of its record
+-- the parts that a buy may meet, each with the place of its record
+met : List Bool
+met =
     sameNumbers (keysFrom 100 ProRata (incoming Buy 100100) 0 orders)
     (keyOf 100000 2 0 250 ∷ keyOf 100100 6 1 50 ∷ keyOf 100050 5 4 400 ∷ keyOf 100050 2 6 120 ∷ keyOf 100050 6 6 80 ∷ keyOf 100000 3 7 30 ∷ []) ∷
     sameNumbers (keysFrom 100 PriceTime (incoming Buy 100000) 7 orders) (keyOf 100000 2 7 250 ∷ keyOf 100000 2 14 30 ∷ []) ∷
     sameNumbers (keysFrom 100 PriceTime (incoming Sell 1) 0 orders) (keyOf 4294867295 2 2 100 ∷ []) ∷
     sameNumbers (keysFrom 100 PriceTime (incoming Buy 100100) 0 []) [] ∷ []
 
-parts-worked : allOf (λ b. b) parts ≡ true
-unfolding parts orders order least hides incoming keysOf keysFrom
-parts-worked = refl
+met-worked : allOf (λ b. b) met ≡ true
+unfolding met orders order least hides incoming keysOf keysFrom
+met-worked = refl
 
 free : List Bool
 free =

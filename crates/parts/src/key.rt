@@ -2,6 +2,7 @@
 use units::Shares;
 ghost use mathlib.Core.Path.{_≡_};
 ghost use Prim.Native.Nat.{_<_};
+ghost use lib.Dec.{leb};
 ghost use Rattle.parts.specs.Key.{keyOf, rankIn, groupIn, paragraphIn, placeIn, sharesIn, withShares};
 
 // The number of a part.
@@ -32,6 +33,14 @@ pub fn paragraph(key: u64) -> u8
     ensures { λ r. ⌜ r ≡ paragraphIn (groupIn key) ⌝ }
 {
     (key / 536_870_912 % 8) as u8
+}
+
+// Whether that number isn't above this one: by one comparison, without taking it out of the key.
+pub fn stands_up_to(key: u64, last: u8) -> bool
+    ensures { λ r. ⌜ r ≡ leb (paragraphIn (groupIn key)) last ⌝ }
+{
+    let l = last as u64;
+    key % 4_294_967_296 < 536_870_912 * (l + 1)
 }
 
 // The place of its order's record.

@@ -6,5 +6,6 @@ pub mod Records
 pub mod Settling
 pub mod Executions
 pub mod Reading
+mod Fours
 pub mod Pasting
 pub mod Filling

@@ -1,13 +1,13 @@
 -- Numbers read from their own bytes, and the numbers of a record each at its own place.
 use Prim.Native.Nat.{ℕ, zero, suc, _+_, _*_}
-use mathlib.Core.Path.{_≡_, refl, sym, ap, _∙_}
+use mathlib.Core.Path.{_≡_, refl, ap, _∙_}
 use mathlib.Core.Bool.{_&&_}
 use mathlib.Core.List.{List, [], _∷_}
 use native.Mathlib.Omega.{arith}
 use lib.ListN.{length, getD, take, drop}
 use lib.Seq.{drop-drop, take-add, take-nil}
 use borrow.Author.Tests.{ne-eqb}
-use Rattle.units.specs.Lists.{all, sum, isZero}
+use Rattle.units.specs.Lists.{all, isZero}
 use Rattle.units.proofs.Members.{all-append}
 use Rattle.record.specs.Codec.{Form, fromBytes, split, decode}
 
@@ -36,11 +36,18 @@ from-zero : (s : List ℕ) → isZero (fromBytes s) ≡ all isZero s
 from-zero [] = refl
 from-zero (b ∷ s) = zero-more b (fromBytes s) ∙ ap (λ z. isZero b && z) (from-zero s)
 
--- a row of numbers is zero where their bytes are
-split-zero : (ws s : List ℕ) → all isZero (split ws s) ≡ all isZero (take (sum ws) s)
-split-zero [] s = refl
-split-zero (w ∷ ws) s =
-    rw (take-add w (sum ws) s, all-append isZero (take w s) (take (sum ws) (drop w s)), from-zero (take w s), split-zero ws (drop w s))
+-- a number is zero where its first bytes are and those behind them
+pub zero-parts : (w v at : ℕ) (s : List ℕ)
+    → isZero (fromBytes (take (w + v) (drop at s))) ≡ (isZero (fromBytes (take w (drop at s))) && isZero (fromBytes (take v (drop (at + w) s))))
+zero-parts w v at s =
+    rw (
+      from-zero (take (w + v) (drop at s)),
+      from-zero (take w (drop at s)),
+      from-zero (take v (drop (at + w) s)),
+      take-add w v (drop at s),
+      all-append isZero (take w (drop at s)) (take v (drop w (drop at s))),
+      drop-drop w at s,
+    )
 
 -- numbers of so many bytes each, one behind the other, the first at a given place
 abbrev pub numbersAt : List ℕ → ℕ → List ℕ → List ℕ
@@ -51,10 +58,6 @@ numbersAt (w ∷ ws) at s = fromBytes (take w (drop at s)) ∷ numbersAt ws (at 
 split-at : (ws : List ℕ) (at : ℕ) (s : List ℕ) → split ws (drop at s) ≡ numbersAt ws at s
 split-at [] at s = refl
 split-at (w ∷ ws) at s = ap (λ l. fromBytes (take w (drop at s)) ∷ l) (ap (split ws) (drop-drop w at s) ∙ split-at ws (at + w) s)
-
--- numbers one behind the other are zero where each of their bytes is
-pub row-zero : (ws : List ℕ) (at : ℕ) (s : List ℕ) → all isZero (numbersAt ws at s) ≡ all isZero (take (sum ws) (drop at s))
-row-zero ws at s = ap (all isZero) (sym (split-at ws at s)) ∙ split-zero ws (drop at s)
 
 -- the numbers of a record stand behind its mark
 pub decode-at : (f : Form) (s : List ℕ) → decode f s ≡ numbersAt (f .widths) (length (f .mark)) s

@@ -7,8 +7,8 @@ use orders::range;
 use units::Price;
 use units::Shares;
 ghost use mathlib.Core.Path.{_≡_};
-ghost use lib.ListN.{length, take, drop};
-ghost use Rattle.units.specs.Lists.{all, orZero, isZero};
+ghost use lib.ListN.{length};
+ghost use Rattle.units.specs.Lists.{orZero};
 ghost use Rattle.orders.specs.Order.{interest, settled, isResting};
 ghost use Rattle.record.specs.Codec.{decode, hasMark};
 ghost use Rattle.record.specs.Record.{orderForm, numbersOf, encodeOrder, decodeOrder, recordSound};
@@ -85,35 +85,28 @@ fn has_mark(rec: &[u8]) -> bool
     bytes::same(&rec[..2], &MARK)
 }
 
-// Whether the bytes behind the setter mark, 21 to 31, are zero.
-fn is_clear_behind(rec: &[u8]) -> bool
-    requires { ⌜ length (now rec) ≡ 40 ⌝ }
-    ensures { λ r. ⌜ r ≡ all isZero (take 11 (drop 21 (now (rec .entry)))) ⌝ }
-{
-    (rec[21] == 0)
-        & (rec[22] == 0)
-        & (rec[23] == 0)
-        & (bytes::read_u32(rec, 24) == 0)
-        & (bytes::read_u32(rec, 28) == 0)
-}
-
 // Whether the record is sound: the mark, each number in its range, a setter mark on kinds 1 and 4 alone, zeros in bytes 21 to 31, and
-// hidden shares and a refresh size on kind 4 alone.
+// hidden shares and a refresh size on kind 4 alone. All is read by four bytes, so that the compiler can test several records at once: side and
+// kind are among the first four, and the setter mark is the number of four bytes of which the others are zero.
 pub fn is_sound(rec: &[u8]) -> bool
     requires { ⌜ length (now rec) ≡ 40 ⌝ }
     ensures { λ r. ⌜ r ≡ recordSound orderForm (now (rec .entry)) ⌝ }
 {
-    let n = numbers_of(rec);
+    let head = bytes::read_u32(rec, 0);
+    let kind = head / 16_777_216;
+    let size = bytes::read_u32(rec, 12);
+    let setter = bytes::read_u32(rec, 20);
     has_mark(rec)
-        & units::in_range(1, 2, n.side)
-        & units::in_range(1, 4, n.kind)
-        & range::number_in_range(n.number)
-        & range::price_in_range(n.price)
-        & range::shares_in_range(n.size)
-        & range::minimum_in_range(n.kind, n.size, n.minimum)
-        & ((n.setter == 0) | ((n.setter == 1) & ((n.kind == 1) | (n.kind == 4))))
-        & is_clear_behind(rec)
-        & range::reserve_in_range(n.kind, n.hidden, n.refresh)
+        & units::in_range(1, 2, head / 65_536 % 256)
+        & units::in_range(1, 4, kind)
+        & range::number_in_range(bytes::read_u32(rec, 4))
+        & range::price_in_range(bytes::read_u32(rec, 8))
+        & range::shares_in_range(size)
+        & range::minimum_in_range(kind, size, bytes::read_u32(rec, 16))
+        & ((setter == 0) | ((setter == 1) & ((kind == 1) | (kind == 4))))
+        & (bytes::read_u32(rec, 24) == 0)
+        & (bytes::read_u32(rec, 28) == 0)
+        & range::reserve_in_range(kind, bytes::read_u32(rec, 32), bytes::read_u32(rec, 36))
 }
 
 // A setter mark as a number.

@@ -1,7 +1,8 @@
 -- `allocation::credit::note_part` meets its contract: the paragraph says of which visibility the part is.
 use borrow.Author.Needs.{needs}
-use borrow.Author.Tests.{le-leb, lt-leb}
-use native.Mathlib.Omega.{arith}
+use mathlib.Core.Path.{_≡_}
+use mathlib.Core.Bool.{true, false}
+use lib.Dec.{leb}
 use Rattle.orders.specs.Order.{shown, hidden}
 use Rattle.parts.specs.Key.{groupIn, paragraphIn}
 use Rattle.parts.specs.Visible.{lastShown}
@@ -28,7 +29,7 @@ returns c =
     let p = i .before .before in
     let a = p .before .before .before .args in
     λ alg v e.
-    let l = le-leb (paragraphIn (groupIn (a .key))) (lastShown alg) (omega (arith, i .if1 .taken, i .before .paragraph .ensures)) in
+    let l : leb (paragraphIn (groupIn (a .key))) (lastShown alg) ≡ true = rw (← e, ← i .before .stands-up-to .ensures) (i .if1 .taken) in
     rw (n .note .ensures) (noted-shown alg (a .key) (a .shares .0) (a .shown .now) (a .hidden .now) (p .place .ensures) l v)
 
 returns-2 : tie.Need-returns-2
@@ -38,7 +39,7 @@ returns-2 c =
     let p = i .before .before in
     let a = p .before .before .before .args in
     λ alg v e.
-    let l = lt-leb (paragraphIn (groupIn (a .key))) (lastShown alg) (omega (arith, i .if1 .left, i .before .paragraph .ensures)) in
+    let l : leb (paragraphIn (groupIn (a .key))) (lastShown alg) ≡ false = rw (← e, ← i .before .stands-up-to .ensures) (i .if1 .left) in
     rw (n .note2 .ensures) (noted-hidden alg (a .key) (a .shares .0) (a .shown .now) (a .hidden .now) (p .place .ensures) l v)
 
 pub note-part-spec : {M : Type 1} → statement M
