@@ -96,7 +96,7 @@ fn beats(new: Order, resting: Numbers) -> bool
     let side = new.side;
     let price = new.price;
     trading::is_opposite(side, Side::of(resting.side))
-        | ((resting.kind == 2) | (resting.kind == 3))
+        | !Kind::is_displayed(resting.kind)
         | trading::is_priced_better(side, price, Price(resting.price))
 }
 
@@ -147,7 +147,6 @@ pub fn decide(book: &[u8], n: usize, request: AddRequest) -> Admission
     }
     let lot = units::round_lot();
     let shown = new.displayed();
-    let kind = new.kind;
-    let setter = kind.is_displayed() & (lot.0 <= shown.0) & found.beats;
+    let setter = Kind::is_displayed(request.kind) & (lot.0 <= shown.0) & found.beats;
     Admission::Admitted(RECORD_BYTES * n, requested(request, setter))
 }

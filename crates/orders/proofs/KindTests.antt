@@ -7,7 +7,7 @@ use lib.Dec.{leb, eqb}
 use borrow.Author.Tests.{eqb-true, ne-eqb, le-leb}
 use Rattle.orders.specs.declared.order.Kind.{Kind}
 use Rattle.orders.specs.declared.order.Kind.the-variants.{Displayed, NonDisplayed, MinimumQuantity, Reserve}
-use Rattle.orders.specs.Order.{kindOf, minimumOf, isDisplayed, interestBy, allShares}
+use Rattle.orders.specs.Order.{kindNumber, kindOf, minimumOf, isDisplayed, interestBy, allShares}
 
 -- a kind by the numbers of a record, test by test
 module _ (k m h r : ℕ) where
@@ -31,11 +31,11 @@ module _ (k m h r : ℕ) where
       go false false true e f g = refl
       go false false false e f g = met
 
-  -- it isn't displayed
-  pub other-test : (eqb k 2 || eqb k 3) ≡ not (isDisplayed (kindOf k m h r))
-  other-test = go (eqb k 1) (eqb k 2) (eqb k 3) refl refl refl
+  -- it counts as displayed
+  pub displayed-test : not (eqb k 2 || eqb k 3) ≡ isDisplayed (kindOf k m h r)
+  displayed-test = go (eqb k 1) (eqb k 2) (eqb k 3) refl refl refl
     where
-      go : (a b c : Bool) → eqb k 1 ≡ a → eqb k 2 ≡ b → eqb k 3 ≡ c → (b || c) ≡ not (isDisplayed (byTests a b c))
+      go : (a b c : Bool) → eqb k 1 ≡ a → eqb k 2 ≡ b → eqb k 3 ≡ c → not (b || c) ≡ isDisplayed (byTests a b c)
       go true b c e f g = rw (sym f, sym g, apart 1 2 (λ z. omega arith) e, apart 1 3 (λ z. omega arith) e)
       go false true c e f g = refl
       go false false true e f g = refl
@@ -50,3 +50,10 @@ module _ (k m h r : ℕ) where
       go false true c e f g = omega (arith, z (apart 2 4 (λ y. omega arith) f))
       go false false true e f g = omega (arith, z (apart 3 4 (λ y. omega arith) g))
       go false false false e f g = refl
+
+-- the kind that a kind's number says counts as displayed where the kind does
+pub number-displayed : (k : Kind) → isDisplayed (kindOf (kindNumber k) 0 0 0) ≡ isDisplayed k
+number-displayed Displayed = refl
+number-displayed NonDisplayed = refl
+number-displayed (MinimumQuantity m) = refl
+number-displayed (Reserve h r) = refl

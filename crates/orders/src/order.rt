@@ -2,8 +2,9 @@
 use units::Price;
 use units::Shares;
 ghost use mathlib.Core.Path.{_≡_};
+ghost use Prim.Native.Nat.{ℕ};
 ghost use lib.Dec.{leb};
-ghost use Rattle.orders.specs.Order.{sideNumber, sideOf, kindNumber, kindOf, minimumOf, hiddenOf, refreshOf, isDisplayed, isMinimumQuantity};
+ghost use Rattle.orders.specs.Order.{sideNumber, sideOf, kindNumber, kindOf, minimumOf, hiddenOf, refreshOf, isDisplayed};
 ghost use Rattle.orders.specs.Order.{interest, interestOf, allShares, refreshed, settled, isResting};
 
 pub enum Side {
@@ -104,27 +105,11 @@ impl Kind {
         }
     }
 
-    // Whether an order of the kind counts as displayed.
-    pub fn is_displayed(self) -> bool
-        ensures { λ r. ⌜ r ≡ isDisplayed self ⌝ }
+    // Whether an order of the kind with this number counts as displayed.
+    pub fn is_displayed(number: u32) -> bool
+        ensures { λ r. ⌜ ((m h s : ℕ) → r ≡ isDisplayed (kindOf number m h s)) ⌝ }
     {
-        match self {
-            Kind::Displayed => true,
-            Kind::NonDisplayed => false,
-            Kind::MinimumQuantity(_) => false,
-            Kind::Reserve(_, _) => true,
-        }
-    }
-
-    pub fn is_minimum_quantity(self) -> bool
-        ensures { λ r. ⌜ r ≡ isMinimumQuantity self ⌝ }
-    {
-        match self {
-            Kind::MinimumQuantity(_) => true,
-            Kind::Displayed => false,
-            Kind::NonDisplayed => false,
-            Kind::Reserve(_, _) => false,
-        }
+        !((number == 2) | (number == 3))
     }
 }
 

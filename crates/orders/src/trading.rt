@@ -1,10 +1,8 @@
-// Which orders may trade, and which of two prices is better.
-use crate::order::Order;
+// Which sides trade, at which prices, and which of two prices is better.
 use crate::order::Side;
-use crate::order::Taker;
 use units::Price;
 ghost use mathlib.Core.Path.{_≡_};
-ghost use Rattle.orders.specs.Trading.{isOpposite, withinLimit, isPricedBetter, isTradable, asTaker};
+ghost use Rattle.orders.specs.Trading.{isOpposite, withinLimit, isPricedBetter};
 
 // Whether one side trades with the other.
 pub fn is_opposite(a: Side, b: Side) -> bool
@@ -44,24 +42,4 @@ pub fn is_priced_better(side: Side, p: Price, q: Price) -> bool
         Side::Buy => b < a,
         Side::Sell => a < b,
     }
-}
-
-// Whether the taker may trade with a resting order.
-pub fn is_tradable(taker: Taker, order: Order) -> bool
-    ensures { λ r. ⌜ r ≡ isTradable taker order ⌝ }
-{
-    let side = taker.side;
-    let other = order.side;
-    let limit = taker.limit;
-    let price = order.price;
-    is_opposite(side, other) & within_limit(side, limit, price)
-}
-
-// An order as a taker at its own price.
-pub fn as_taker(order: Order) -> Taker
-    ensures { λ r. ⌜ r ≡ asTaker order ⌝ }
-{
-    let side = order.side;
-    let limit = order.price;
-    Taker { side, limit }
 }

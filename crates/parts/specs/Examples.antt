@@ -2,7 +2,7 @@
 use Prim.Native.Nat.{ℕ, zero, suc, _+_}
 use mathlib.Core.Path.{_≡_, refl}
 use mathlib.Core.Bool.{Bool, true, false, not, _&&_}
-use mathlib.Core.List.{List, [], _∷_}
+use mathlib.Core.List.{List, [], _∷_, map}
 use native.Mathlib.Omega.{arith}
 use lib.ListN.{length}
 use lib.Dec.{eqb}
@@ -195,6 +195,16 @@ met =
 met-worked : allOf (λ b. b) met ≡ true
 unfolding met orders order least hides incoming keysOf keysFrom
 met-worked = refl
+
+-- both parts of an order have the place of its record, one more than those of the order before
+placed : List Bool
+placed =
+    sameNumbers (map placeIn (keysFrom 100 ProRata (incoming Buy 100100) 3 (order Sell (hides 80) 100000 120 ∷ order Sell (hides 80) 100000 120 ∷ [])))
+    (3 ∷ 3 ∷ 4 ∷ 4 ∷ []) ∷ []
+
+placed-worked : allOf (λ b. b) placed ≡ true
+unfolding placed order hides incoming keysOf keysFrom
+placed-worked = refl
 
 free : List Bool
 free =

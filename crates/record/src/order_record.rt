@@ -68,7 +68,7 @@ pub fn read(rec: &[u8]) -> Order
 pub fn rests_after(n: Numbers, shown: Shares, hidden: Shares) -> bool
     ensures { λ r. ⌜ ((o : Order) → n ≡ namedNumbers (numbersOf o) → r ≡ isResting (settled (interest (shown .0) (hidden .0)) o)) ⌝ }
 {
-    if (n.kind == 2) | (n.kind == 3) {
+    if !Kind::is_displayed(n.kind) {
         return hidden.0 < n.size;
     }
     (shown.0 < n.size) | (hidden.0 < n.hidden)

@@ -39,14 +39,6 @@ pub fn difference(a: Shares, b: Shares) -> Shares
     }
 }
 
-// The whole lots in a count of shares.
-pub fn whole_lots(shares: Shares, lot: Shares) -> Lots
-    requires { ⌜ 0 < lot .0 ⌝ }
-    ensures { λ r. ⌜ r .0 ≡ shares .0 / lot .0 ⌝ }
-{
-    Lots(shares.0 / lot.0)
-}
-
 // The shares in a count of lots.
 pub fn shares_of(lots: Lots, lot: Shares) -> Shares
     requires { ⌜ lots .0 * lot .0 < 2 ^ 32 ⌝ }

@@ -63,9 +63,13 @@ marked : (c : tie.After-requested2)
     c .requested2 .result
     ≡ requested (g .before .before .before .before .args .request)
     (isDisplayed (new .kind) && leb roundLot (interestOf new .displayed) && g .standing-in .result .beats)
+unfolding requested
 marked c =
     let i = c .before .before .before .before in
-    rw (i .is-displayed .ensures, i .before .displayed .ensures, i .before .before .round-lot .ensures) at (c .requested2 .ensures)
+    let g = i .before .before .before .before .before .before in
+    let q = g .before .before .before .before .args .request in
+    let k = i .is-displayed .ensures (q .minimum) (q .hidden) (q .refresh) ∙ ap (λ o. isDisplayed (o .kind)) (sym (g .before .before .requested .ensures)) in
+    rw (k, i .before .displayed .ensures, i .before .before .round-lot .ensures) at (c .requested2 .ensures)
 
 returns-4 : tie.Need-returns-4
 returns-4 c =
