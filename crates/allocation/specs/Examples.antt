@@ -22,7 +22,7 @@ use Rattle.orders.specs.declared.order.Order.{Order}
 use Rattle.orders.specs.Order.{Visibility, shown, hidden, sharesOf, interestOf}
 use Rattle.record.specs.declared.execution.Execution.{Execution}
 use Rattle.record.specs.Codec.{encode, decode}
-use Rattle.record.specs.Record.{numbersOf, orderOf, numbersSound}
+use Rattle.record.specs.Record.{numbersOf, orderOf, numbersSound, newTells}
 use Rattle.book.specs.Sound.{sound, ordersOf, bookOf, orderAt}
 use Rattle.matching.specs.declared.Algorithm.the-variants.{PriceTime, ProRata}
 use Rattle.matching.specs.Paragraph.{paragraphNumber}
@@ -301,7 +301,7 @@ no-shares h = go (h .visibility) (h .some) (h .is)
 
 -- the parts of the book
 of-book : Book book 100 ProRata Buy parts
-unfolding book order bookOf sound ordersOf encode decode numbersOf orderOf numbersSound
+unfolding book order bookOf sound ordersOf encode decode numbersOf orderOf numbersSound newTells
 of-book = record { isSound = refl; hasLot = omega arith; ready = record { each = stands; ascend = ascending }; few = omega arith }
 
 no-lot : Book book 0 ProRata Buy parts → ⊥

@@ -10,10 +10,9 @@ use Rattle.units.specs.Lists.{all}
 use Rattle.units.proofs.Tests.{and-true}
 use Rattle.units.proofs.Members.{every-member, all-append}
 use Rattle.orders.specs.declared.order.Order.{Order}
-use Rattle.record.specs.Codec.{decode, hasMark}
-use Rattle.record.specs.Record.{numbersOf, numbersSound, decodeOrder, recordSound}
-use Rattle.record.proofs.Forms.{length-decode}
-use Rattle.record.proofs.Rows.{numbers-order}
+use Rattle.record.specs.Codec.{decode}
+use Rattle.record.specs.Record.{numbersOf, decodeOrder, recordSound}
+use Rattle.record.proofs.Records.{new-numbers}
 use Rattle.record.proofs.Orders.{OrderSound}
 use Rattle.book.specs.Sound.{form, firstRecords, sound, ordersOf, firstOrders, orderAt}
 use Rattle.book.proofs.Soundness.{book-facts, orders-sound}
@@ -78,10 +77,11 @@ get-member (x ∷ xs) (suc i) d h = List·Memᴰ·tail (get-member xs i d (omega
 
 -- the records of a sound book's orders are sound
 pub records-sound : (s : List ℕ) → sound s ≡ true → all (recordSound form) (firstRecords form (length (ordersOf s)) s) ≡ true
+unfolding sound
 records-sound s e =
     ap (λ k. all (recordSound form) (firstRecords form k s)) (orders-count s)
-    ∙ ap (all (recordSound form)) (sym (occupied-first s))
-    ∙ book-facts s e .records
+    ∙ ap (all (recordSound form)) (sym (occupied-first form s))
+    ∙ book-facts form s e .records
 
 module _ (s : List ℕ) (i : ℕ) where
   -- the order of record i stands at place i of the orders
@@ -107,8 +107,6 @@ module _ (s : List ℕ) (i : ℕ) where
     order-at-sound = every-member OrderSound (ordersOf s) (orders-sound s e .each) (orderAt s i) (order-member h)
 
     -- the numbers of record i are its numbers
-    pub numbers-here : decode form (take 40 (drop (40 * i) s)) ≡ numbersOf (orderAt s i)
+    pub numbers-here : decode (form .layout) (take 40 (drop (40 * i) s)) ≡ numbersOf (orderAt s i)
     numbers-here =
-        let r = take 40 (drop (40 * i) s) in
-        let b = first-sound (length (ordersOf s)) s i h (records-sound s e) in
-        sym (numbers-order (decode form r) (and-true (hasMark form r) (numbersSound (decode form r)) b .1) (length-decode form r))
+        new-numbers (take 40 (drop (40 * i) s)) (first-sound (length (ordersOf s)) s i h (records-sound s e))

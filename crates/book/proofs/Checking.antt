@@ -1,79 +1,106 @@
 -- Soundness in the parts that check looks at, by the number of orders that it counts, and what its answer says.
 use Prim.Native.Nat.{ℕ, zero, suc, _+_, _*_, _%_, _≤_}
 use mathlib.Core.Path.{_≡_, refl, sym, ap, _∙_}
-use mathlib.Core.Bool.{Bool, true, false, cond, _&&_}
+use mathlib.Core.Bool.{Bool, true, false, cond, not, _&&_}
 use mathlib.Core.List.{List, [], _∷_, map}
 use native.Mathlib.Omega.{arith}
+use native.Mathlib.Nat.{mul-zero, mul-suc, div-add-mod}
 use lib.ListN.{length, take, drop, length-map, length-drop, take-append-drop}
 use lib.Seq.{drop-drop}
-use lib.Dec.{leb}
+use lib.Dec.{leb, eqb}
 use borrow.Author.Tests.{eqb-true, leb-true}
 use Rattle.units.specs.Lists.{all, isZero}
 use Rattle.units.proofs.Tests.{and-true}
 use Rattle.units.proofs.Members.{all-append}
-use Rattle.record.specs.Record.{decodeOrder, recordSound}
+use Rattle.record.specs.Record.{OrderForm, orderBytes, decodeOrder, recordSound}
 use Rattle.book.specs.declared.Checked.{Checked}
 use Rattle.book.specs.Sound.{mostOrders, form, recordBytes, rising, settersSound, isUnused, occupied, behind}
-use Rattle.book.specs.Sound.{firstRecords, recordsIn, sound, ordersOf, capacityOf, firstOrders}
+use Rattle.book.specs.Sound.{firstRecords, recordsIn, capacityIn, soundIn, firstOrdersIn, sound, ordersOf, firstOrders}
 use Rattle.book.specs.Lookup.{checkCall}
 use Rattle.book.proofs.Soundness.{orders-fit, capacity-most, capacity-bytes}
 
--- of the first n records the occupied ones come first
-occupied-among : (n : ℕ) (s : List ℕ) → occupied (firstRecords form n s) ≡ firstRecords form (length (occupied (firstRecords form n s))) s
-occupied-among zero s = refl
-occupied-among (suc n) s = go (isUnused r) (occupied-among n (drop recordBytes s))
-  where
-    r : List ℕ
-    r = take recordBytes s
+-- Books of any form of record.
+module _ (f : OrderForm) where
+  -- of the first n records the occupied ones come first
+  occupied-among : (n : ℕ) (s : List ℕ) → occupied (firstRecords f n s) ≡ firstRecords f (length (occupied (firstRecords f n s))) s
+  occupied-among zero s = refl
+  occupied-among (suc n) s = go (isUnused r) (occupied-among n (drop (orderBytes f) s))
+    where
+      r : List ℕ
+      r = take (orderBytes f) s
 
-    rs : List (List ℕ)
-    rs = firstRecords form n (drop recordBytes s)
+      rs : List (List ℕ)
+      rs = firstRecords f n (drop (orderBytes f) s)
 
-    go : (b : Bool) → occupied rs ≡ firstRecords form (length (occupied rs)) (drop recordBytes s)
-        → cond b [] (r ∷ occupied rs) ≡ firstRecords form (length (cond b [] (r ∷ occupied rs))) s
-    go true ih = refl
-    go false ih = ap (λ l. r ∷ l) ih
+      go : (b : Bool) → occupied rs ≡ firstRecords f (length (occupied rs)) (drop (orderBytes f) s)
+          → cond b [] (r ∷ occupied rs) ≡ firstRecords f (length (cond b [] (r ∷ occupied rs))) s
+      go true ih = refl
+      go false ih = ap (λ l. r ∷ l) ih
 
--- records are all zero where their bytes are
-zero-records : (n : ℕ) (s : List ℕ) → length s ≡ recordBytes * n → all (all isZero) (firstRecords form n s) ≡ all isZero s
-zero-records zero [] l = refl
-zero-records zero (x ∷ s) l = absurd (omega arith)
-zero-records (suc n) s l =
-    let r = take recordBytes s in
-    let t = drop recordBytes s in
-    ap (λ b. all isZero r && b) (zero-records n t (length-drop recordBytes s ∙ omega arith))
-    ∙ sym (all-append isZero r t)
-    ∙ ap (all isZero) (take-append-drop recordBytes s)
+  -- records are all zero where their bytes are
+  zero-records : (n : ℕ) (s : List ℕ) → length s ≡ orderBytes f * n → all (all isZero) (firstRecords f n s) ≡ all isZero s
+  zero-records zero [] l = refl
+  zero-records zero (x ∷ s) l = absurd (omega (arith, mul-zero (orderBytes f)))
+  zero-records (suc n) s l =
+      let r = take (orderBytes f) s in
+      let t = drop (orderBytes f) s in
+      ap (λ b. all isZero r && b) (zero-records n t (length-drop (orderBytes f) s ∙ omega arith))
+      ∙ sym (all-append isZero r t)
+      ∙ ap (all isZero) (take-append-drop (orderBytes f) s)
 
--- the records behind the occupied ones are zero where the bytes behind these are
-zero-behind : (n : ℕ) (s : List ℕ) → length s ≡ recordBytes * n
-    → all (all isZero) (behind (firstRecords form n s)) ≡ all isZero (drop (recordBytes * length (occupied (firstRecords form n s))) s)
-zero-behind zero [] l = refl
-zero-behind zero (x ∷ s) l = absurd (omega arith)
-zero-behind (suc n) s l = go (isUnused r) (zero-behind n t (length-drop recordBytes s ∙ omega arith))
-  where
-    r : List ℕ
-    r = take recordBytes s
+  -- the records behind the occupied ones are zero where the bytes behind these are
+  zero-behind : (n : ℕ) (s : List ℕ) → length s ≡ orderBytes f * n
+      → all (all isZero) (behind (firstRecords f n s)) ≡ all isZero (drop (orderBytes f * length (occupied (firstRecords f n s))) s)
+  zero-behind zero [] l = rw (mul-zero (orderBytes f))
+  zero-behind zero (x ∷ s) l = absurd (omega (arith, mul-zero (orderBytes f)))
+  zero-behind (suc n) s l = go (isUnused r) (zero-behind n t (length-drop (orderBytes f) s ∙ omega arith))
+    where
+      r : List ℕ
+      r = take (orderBytes f) s
 
-    t : List ℕ
-    t = drop recordBytes s
+      t : List ℕ
+      t = drop (orderBytes f) s
 
-    rs : List (List ℕ)
-    rs = firstRecords form n t
+      rs : List (List ℕ)
+      rs = firstRecords f n t
 
-    go : (b : Bool) → all (all isZero) (behind rs) ≡ all isZero (drop (recordBytes * length (occupied rs)) t)
-        → all (all isZero) (cond b (r ∷ rs) (behind rs)) ≡ all isZero (drop (recordBytes * length (cond b [] (r ∷ occupied rs))) s)
-    go true ih = zero-records (suc n) s l
-    go false ih =
-        let k = length (occupied rs) in
-        let e : recordBytes + recordBytes * k ≡ recordBytes * suc k = omega arith in
-        ih ∙ ap (all isZero) (drop-drop (recordBytes * k) recordBytes s ∙ ap (λ i. drop i s) e)
+      go : (b : Bool) → all (all isZero) (behind rs) ≡ all isZero (drop (orderBytes f * length (occupied rs)) t)
+          → all (all isZero) (cond b (r ∷ rs) (behind rs)) ≡ all isZero (drop (orderBytes f * length (cond b [] (r ∷ occupied rs))) s)
+      go true ih = rw (mul-zero (orderBytes f)) (zero-records (suc n) s l)
+      go false ih =
+          let k = length (occupied rs) in
+          let e : orderBytes f + orderBytes f * k ≡ orderBytes f * suc k = omega (arith, mul-suc (orderBytes f) k) in
+          ih ∙ ap (all isZero) (drop-drop (orderBytes f * k) (orderBytes f) s ∙ ap (λ i. drop i s) e)
 
+  module _ (s : List ℕ) where
+    -- the occupied records are the first ones
+    pub occupied-first : occupied (recordsIn f s) ≡ firstRecords f (length (occupied (recordsIn f s))) s
+    occupied-first = occupied-among (capacityIn f s) s
+
+    -- the records behind the orders are zero where the bytes are
+    pub behind-zero : length s % orderBytes f ≡ 0
+        → all (all isZero) (behind (recordsIn f s)) ≡ all isZero (drop (orderBytes f * length (occupied (recordsIn f s))) s)
+    behind-zero h = zero-behind (capacityIn f s) s (omega (arith, div-add-mod (length s) (orderBytes f)))
+
+    -- a length that is no whole number of records, at most 256, is no sound book's
+    pub sound-length-in : (leb (length s) (mostOrders * orderBytes f) && isZero (length s % orderBytes f)) ≡ false → soundIn f s ≡ false
+    sound-length-in h = rw h
+
+    -- a whole number of records, at most 256, is a sound book where its first n and the bytes behind them pass these four tests
+    pub sound-parts-in : (n : ℕ) → n ≡ length (occupied (recordsIn f s))
+        → (leb (length s) (mostOrders * orderBytes f) && isZero (length s % orderBytes f)) ≡ true
+        → soundIn f s
+        ≡ (all (recordSound f) (firstRecords f n s)
+        && all isZero (drop (orderBytes f * n) s)
+        && rising 0 (firstOrdersIn f n s)
+        && settersSound (firstOrdersIn f n s))
+    sound-parts-in n e h =
+        let w = and-true (leb (length s) (mostOrders * orderBytes f)) (isZero (length s % orderBytes f)) h in
+        let z = behind-zero (eqb-true (length s % orderBytes f) 0 (w .1)) in
+        rw (h, z, ← e, occupied-first, ← e)
+
+-- Books of the new form.
 module _ (s : List ℕ) where
-  -- the occupied records are the first ones
-  pub occupied-first : occupied (recordsIn form s) ≡ firstRecords form (length (occupied (recordsIn form s))) s
-  occupied-first = occupied-among (capacityOf s) s
-
   -- a book has as many orders as occupied records
   pub orders-count : length (ordersOf s) ≡ length (occupied (recordsIn form s))
   unfolding ordersOf
@@ -82,18 +109,14 @@ module _ (s : List ℕ) where
   -- they are those of its first records
   pub orders-first : ordersOf s ≡ firstOrders (length (ordersOf s)) s
   unfolding ordersOf
-  orders-first = ap (map (decodeOrder form)) occupied-first ∙ ap (λ k. firstOrders k s) (sym orders-count)
-
-  -- the records behind the orders are zero where the bytes are
-  pub behind-zero : length s % 40 ≡ 0 → all (all isZero) (behind (recordsIn form s)) ≡ all isZero (drop (40 * length (occupied (recordsIn form s))) s)
-  behind-zero h = zero-behind (capacityOf s) s (omega arith)
+  orders-first = ap (map (decodeOrder form)) (occupied-first form s) ∙ ap (λ k. firstOrders k s) (sym orders-count)
 
   -- a length that is no whole number of records, at most 256, is no sound book's
   pub sound-length : (leb (length s) (mostOrders * recordBytes) && isZero (length s % recordBytes)) ≡ false → sound s ≡ false
   unfolding sound
-  sound-length h = rw h
+  sound-length h = sound-length-in form s h
 
-  -- any other has at most 8,192 bytes
+  -- any other has at most 10,240 bytes
   pub whole-most : (leb (length s) (mostOrders * recordBytes) && isZero (length s % recordBytes)) ≡ true → length s ≤ 10240
   whole-most h = leb-true (length s) 10240 (and-true (leb (length s) (mostOrders * recordBytes)) (isZero (length s % recordBytes)) h .0)
 
@@ -106,6 +129,15 @@ module _ (s : List ℕ) where
   unfolding checkCall
   check-unsound h = rw h
 
+  -- it accepts a sound one, and no other
+  pub check-test : eqb (checkCall s .refusal) 0 ≡ sound s
+  unfolding checkCall
+  check-test = go (sound s)
+    where
+      go : (b : Bool) → eqb (cond (not b) 2 0) 0 ≡ b
+      go true = refl
+      go false = refl
+
   module _ (n : ℕ) (e : n ≡ length (occupied (recordsIn form s))) where
     -- a whole number of records, at most 256, is a sound book where its first n and the bytes behind them pass these four tests
     pub sound-parts : (leb (length s) (mostOrders * recordBytes) && isZero (length s % recordBytes)) ≡ true
@@ -115,10 +147,7 @@ module _ (s : List ℕ) where
         && rising 0 (firstOrders n s)
         && settersSound (firstOrders n s))
     unfolding sound
-    sound-parts h =
-        let w = and-true (leb (length s) (mostOrders * recordBytes)) (isZero (length s % recordBytes)) h in
-        let z = behind-zero (eqb-true (length s % recordBytes) 0 (w .1)) in
-        rw (h, z, ← e, occupied-first, ← e)
+    sound-parts h = sound-parts-in form s n e h
 
     -- check gives a sound book's number of orders
     pub check-sound : sound s ≡ true → record { refusal = 0; orders = n } ≡ checkCall s

@@ -43,7 +43,7 @@ refuses r before after h = record { refusal = refl; book = sym (book-refused r b
 -- The refusals that come before all others, of a call whose numbers are in range where this test says so.
 module _ (inRange : Bool) (ofBook : List Refusal) (s after : List ℕ) where
   abbrev call : Changed
-  call = changedUnless (refusalOf (record { ofCall = refuse 1 (not inRange) ∷ []; ofBook = ofBook }) s) s after
+  call = changedUnless (refusalOf (record { ofCall = refuse 1 (not inRange) ∷ []; ofBook = ofBook }) (sound s)) s after
 
   -- refusal 1, a number out of its range
   pub refuses-range : inRange ≡ false → Refuses call s 1

@@ -11,7 +11,7 @@ use Rattle.units.specs.Lists.{any}
 use Rattle.units.proofs.Tests.{and-true, or-false}
 use Rattle.orders.specs.declared.order.Order.{Order}
 use Rattle.record.specs.Record.{decodeOrder}
-use Rattle.book.specs.Sound.{form, rising, ordersOf}
+use Rattle.book.specs.Sound.{form, rising, sound, ordersOf}
 use Rattle.book.specs.Lookup.{hasNumber, placeOf, findRefusals, findCall, foundPart}
 use Rattle.book.proofs.Soundness.{orders-sound, orders-fit, capacity-bytes}
 use Rattle.book.proofs.Refusing.{Accepted, accepted}
@@ -92,9 +92,9 @@ module _ (n : ℕ) where
 -- A find that is accepted.
 module _ (n : ℕ) (s : List ℕ) (e : findCall n s .refusal ≡ 0) where
   -- its book is sound, and none of its refusals holds
-  pub find-accepted : Accepted (findRefusals n (ordersOf s)) s
+  pub find-accepted : Accepted (findRefusals n (ordersOf s)) (sound s)
   unfolding findCall
-  find-accepted = accepted (findRefusals n (ordersOf s)) s refl e
+  find-accepted = accepted (findRefusals n (ordersOf s)) (sound s) refl e
 
   -- the order of the number
   pub find-placed : Placed n (ordersOf s)

@@ -9,7 +9,6 @@ use borrow.Author.Tests.{ltb-true, eq-eqb, ne-eqb, not-false}
 use Rattle.units.specs.Lists.{all}
 use Rattle.units.proofs.Tests.{and-true}
 use Rattle.units.proofs.Members.{Every, every-split}
-use Rattle.book.specs.Sound.{sound}
 use Rattle.book.specs.Refusal.{Refusal, refuse, firstRefusal, Refusals, refusalOf, changedUnless}
 
 -- a refusal's number is above 0
@@ -21,9 +20,9 @@ abbrev pub NotHeld : Refusal → Type 0
 NotHeld r = r .holds ≡ false
 
 -- an accepted call: its book is sound and none of its refusals holds
-pub record Accepted (rs : Refusals) (s : List ℕ) : Type 0 where
+pub record Accepted (rs : Refusals) (isSound : Bool) : Type 0 where
   pub ofCall : Every NotHeld (rs .ofCall)
-  pub book : sound s ≡ true
+  pub book : isSound ≡ true
   pub ofBook : Every NotHeld (rs .ofBook)
 
 none-held : (rs : List Refusal) → all isNumbered rs ≡ true → firstRefusal rs ≡ 0 → Every NotHeld rs
@@ -36,14 +35,14 @@ none-held (r ∷ rs) n e = let a = and-true (isNumbered r) (all isNumbered rs) n
     go false h f m ih = (h, ih f)
 
 -- every refusal of a call, refusal 2 among them
-abbrev pub refusalsOf : Refusals → List ℕ → List Refusal
-refusalsOf rs s = rs .ofCall ++ (refuse 2 (not (sound s)) ∷ rs .ofBook)
+abbrev pub refusalsOf : Refusals → Bool → List Refusal
+refusalsOf rs isSound = rs .ofCall ++ (refuse 2 (not isSound) ∷ rs .ofBook)
 
 -- a call that gives 0 is accepted, where every refusal has a number
-pub accepted : (rs : Refusals) (s : List ℕ) → all isNumbered (refusalsOf rs s) ≡ true → refusalOf rs s ≡ 0 → Accepted rs s
-accepted rs s n e =
-    let h = every-split NotHeld (rs .ofCall) (refuse 2 (not (sound s)) ∷ rs .ofBook) (none-held (refusalsOf rs s) n e) in
-    record { ofCall = h .0; book = not-false (sound s) (h .1 .0); ofBook = h .1 .1 }
+pub accepted : (rs : Refusals) (isSound : Bool) → all isNumbered (refusalsOf rs isSound) ≡ true → refusalOf rs isSound ≡ 0 → Accepted rs isSound
+accepted rs isSound n e =
+    let h = every-split NotHeld (rs .ofCall) (refuse 2 (not isSound) ∷ rs .ofBook) (none-held (refusalsOf rs isSound) n e) in
+    record { ofCall = h .0; book = not-false isSound (h .1 .0); ofBook = h .1 .1 }
 
 -- a refusal that has the number n and holds
 abbrev gives : ℕ → Refusal → Bool

@@ -11,42 +11,66 @@ use lib.Dec.{ltb}
 use borrow.Author.Tests.{eq-eqb, ne-eqb}
 use Rattle.units.specs.Lists.{all, any, isZero}
 use Rattle.orders.specs.declared.order.Order.{Order}
-use Rattle.record.specs.Record.{decodeOrder}
+use Rattle.record.specs.Record.{OrderForm, orderBytes, decodeOrder}
 use Rattle.book.specs.Sound.{form, rising, isUnused, occupied, firstRecords, firstOrders}
 use Rattle.book.specs.Lookup.{placeOf}
 
--- From byte `at` on, with n records to go.
-module _ (s : List ℕ) (at n : ℕ) where
-  -- a record is unused where its first byte is zero
-  unused-at : isUnused (take 40 (drop at s)) ≡ isZero (getD s at 0)
-  unused-at = rw (getD-take 40 (drop at s) 0 0 (omega arith), getD-drop at s 0 0, add-zero at)
+-- Records of any form, from byte `at` on, with n of them to go.
+module _ (f : OrderForm) (s : List ℕ) (at n : ℕ) where
+  -- those behind the first
+  abbrev others : List (List ℕ)
+  others = firstRecords f (n - 1) (drop (at + orderBytes f) s)
 
   -- Where there are some.
   module _ (h : 0 < n) where
     -- the first record, and those behind it
-    pub records-more : firstRecords form n (drop at s) ≡ take 40 (drop at s) ∷ firstRecords form (n - 1) (drop (at + 40) s)
+    pub records-more : firstRecords f n (drop at s) ≡ take (orderBytes f) (drop at s) ∷ others
     records-more =
         let e : n ≡ suc (n - 1) = omega arith in
-        ap (λ k. firstRecords form k (drop at s)) e ∙ rw (drop-drop 40 at s)
-
-    -- the first order, and those behind it
-    pub orders-more : firstOrders n (drop at s) ≡ decodeOrder form (take 40 (drop at s)) ∷ firstOrders (n - 1) (drop (at + 40) s)
-    orders-more = ap (map (decodeOrder form)) records-more
-
-    -- an occupied record is one more than those behind it
-    pub count-more : (getD s at 0 ≡ 0 → ⊥)
-        → length (occupied (firstRecords form n (drop at s))) ≡ suc (length (occupied (firstRecords form (n - 1) (drop (at + 40) s))))
-    count-more e = ap (λ rs. length (occupied rs)) records-more ∙ rw (unused-at, ne-eqb (getD s at 0) 0 e)
-
-    -- an unused one ends the count
-    pub count-stop : getD s at 0 ≡ 0 → length (occupied (firstRecords form n (drop at s))) ≡ 0
-    count-stop e = ap (λ rs. length (occupied rs)) records-more ∙ rw (unused-at, eq-eqb (getD s at 0) 0 e)
+        ap (λ k. firstRecords f k (drop at s)) e ∙ rw (drop-drop (orderBytes f) at s)
 
     -- a test of every record, gathered: whether those so far passed, and this one, and those behind it
     pub all-more : (p : List ℕ → Bool) (x : Bool)
-        → ((x && p (take 40 (drop at s))) && all p (firstRecords form (n - 1) (drop (at + 40) s))) ≡ (x && all p (firstRecords form n (drop at s)))
-    all-more p x =
-        and-assoc x (p (take 40 (drop at s))) (all p (firstRecords form (n - 1) (drop (at + 40) s))) ∙ ap (λ rs. x && all p rs) (sym records-more)
+        → ((x && p (take (orderBytes f) (drop at s))) && all p others) ≡ (x && all p (firstRecords f n (drop at s)))
+    all-more p x = and-assoc x (p (take (orderBytes f) (drop at s))) (all p others) ∙ ap (λ rs. x && all p rs) (sym records-more)
+
+    -- A record has a first byte.
+    module _ (some : 1 ≤ orderBytes f) where
+      -- it is unused where that is zero
+      unused-at : isUnused (take (orderBytes f) (drop at s)) ≡ isZero (getD s at 0)
+      unused-at = rw (getD-take (orderBytes f) (drop at s) 0 0 some, getD-drop at s 0 0, add-zero at)
+
+      -- an occupied record is one more than those behind it
+      pub count-more : (getD s at 0 ≡ 0 → ⊥) → length (occupied (firstRecords f n (drop at s))) ≡ suc (length (occupied others))
+      count-more e = ap (λ rs. length (occupied rs)) records-more ∙ rw (unused-at, ne-eqb (getD s at 0) 0 e)
+
+      -- an unused one ends the count
+      pub count-stop : getD s at 0 ≡ 0 → length (occupied (firstRecords f n (drop at s))) ≡ 0
+      count-stop e = ap (λ rs. length (occupied rs)) records-more ∙ rw (unused-at, eq-eqb (getD s at 0) 0 e)
+
+  -- Where there are none.
+  module _ (h : n ≤ 0) where
+    -- no record is left
+    pub records-done : firstRecords f n (drop at s) ≡ []
+    records-done =
+        let e : n ≡ 0 = omega arith in
+        rw e
+
+    -- none counts
+    pub count-done : length (occupied (firstRecords f n (drop at s))) ≡ 0
+    count-done = ap (λ rs. length (occupied rs)) records-done
+
+    -- whether those so far passed the test is the answer
+    pub all-done : (p : List ℕ → Bool) (x : Bool) → (x && all p (firstRecords f n (drop at s))) ≡ x
+    all-done p x = ap (λ rs. x && all p rs) records-done ∙ and-true x
+
+-- Orders of the new form, from byte `at` on, with n of them to go.
+module _ (s : List ℕ) (at n : ℕ) where
+  -- Where there are some.
+  module _ (h : 0 < n) where
+    -- the first order, and those behind it
+    pub orders-more : firstOrders n (drop at s) ≡ decodeOrder form (take 40 (drop at s)) ∷ firstOrders (n - 1) (drop (at + 40) s)
+    orders-more = ap (map (decodeOrder form)) (records-more form s at n h)
 
     -- The first order, as it is read.
     module _ (o : Order) (q : o ≡ decodeOrder form (take 40 (drop at s))) where
@@ -84,23 +108,9 @@ module _ (s : List ℕ) (at n : ℕ) where
 
   -- Where there are none.
   module _ (h : n ≤ 0) where
-    -- no record is left
-    pub records-done : firstRecords form n (drop at s) ≡ []
-    records-done =
-        let e : n ≡ 0 = omega arith in
-        rw e
-
     -- no order is left
     pub orders-done : firstOrders n (drop at s) ≡ []
-    orders-done = ap (map (decodeOrder form)) records-done
-
-    -- none counts
-    pub count-done : length (occupied (firstRecords form n (drop at s))) ≡ 0
-    count-done = ap (λ rs. length (occupied rs)) records-done
-
-    -- whether those so far passed the test is the answer
-    pub all-done : (p : List ℕ → Bool) (x : Bool) → (x && all p (firstRecords form n (drop at s))) ≡ x
-    all-done p x = ap (λ rs. x && all p rs) records-done ∙ and-true x
+    orders-done = ap (map (decodeOrder form)) (records-done form s at n h)
 
     -- whether the numbers so far rise is the answer
     pub rising-done : (last : ℕ) (x : Bool) → (x && rising last (firstOrders n (drop at s))) ≡ x

@@ -11,7 +11,7 @@ use Rattle.orders.specs.declared.order.Side.the-variants.{Buy, Sell}
 use Rattle.orders.specs.declared.order.Kind.the-variants.{Displayed}
 use Rattle.orders.specs.declared.order.Order.{Order}
 use Rattle.record.specs.Codec.{encode, decode}
-use Rattle.record.specs.Record.{numbersOf, orderOf, numbersSound}
+use Rattle.record.specs.Record.{numbersOf, orderOf, numbersSound, newTells}
 use Rattle.book.specs.Sound.{sound, ordersOf, bookOf, capacityOf, orderAt}
 use Rattle.book.specs.Lookup.{checkCall, findCall, foundPart}
 
@@ -64,9 +64,9 @@ finding =
     sameNumbers (foundPart (findCall 8 crossed) crossed) [] ∷ []
 
 checking-worked : all (λ b. b) checking ≡ true
-unfolding checking crossed order sound ordersOf bookOf checkCall findCall encode decode numbersOf orderOf numbersSound
+unfolding checking crossed order sound ordersOf bookOf checkCall findCall encode decode numbersOf orderOf numbersSound newTells
 checking-worked = refl
 
 finding-worked : all (λ b. b) finding ≡ true
-unfolding finding crossed order sound ordersOf bookOf checkCall findCall encode decode numbersOf orderOf numbersSound
+unfolding finding crossed order sound ordersOf bookOf checkCall findCall encode decode numbersOf orderOf numbersSound newTells
 finding-worked = refl

@@ -9,7 +9,7 @@ use Rattle.orders.specs.declared.order.Order.{Order}
 use Rattle.orders.specs.Order.{numberInRange}
 use Rattle.book.specs.declared.Checked.{Checked}
 use Rattle.book.specs.declared.Found.{Found}
-use Rattle.book.specs.Sound.{recordBytes, ordersOf}
+use Rattle.book.specs.Sound.{recordBytes, sound, ordersOf}
 use Rattle.book.specs.Refusal.{Refusals, refuse, refusalOf, isAccepted}
 
 -- check is given no number, and finds fault with nothing but the book
@@ -19,7 +19,7 @@ checkRefusals = record { ofCall = []; ofBook = [] }
 -- check gives the number of orders
 unfoldable pub checkCall : List ℕ → Checked
 checkCall s =
-    let r = refusalOf checkRefusals s in
+    let r = refusalOf checkRefusals (sound s) in
     record { refusal = r; orders = orZero (isAccepted r) (length (ordersOf s)) }
 
 abbrev pub hasNumber : ℕ → Order → Bool
@@ -44,7 +44,7 @@ findRefusals n os = record {
 -- find answers with the place of the order's own record in the book
 unfoldable pub findCall : ℕ → List ℕ → Found
 findCall n s =
-    let r = refusalOf (findRefusals n (ordersOf s)) s in
+    let r = refusalOf (findRefusals n (ordersOf s)) (sound s) in
     record {
       refusal = r;
       start = orZero (isAccepted r) (recordBytes * placeOf n (ordersOf s));

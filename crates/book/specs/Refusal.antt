@@ -3,7 +3,6 @@ use Prim.Native.Nat.{ℕ}
 use mathlib.Core.Bool.{Bool, cond, not}
 use mathlib.Core.List.{List, [], _∷_, _++_}
 use lib.Dec.{eqb}
-use Rattle.book.specs.Sound.{sound}
 
 pub record Refusal : Type 0 where
   pub number : ℕ
@@ -22,9 +21,9 @@ pub record Refusals : Type 0 where
   pub ofCall : List Refusal
   pub ofBook : List Refusal
 
--- between them, refusal 2: the book isn't sound, its length included
-abbrev pub refusalOf : Refusals → List ℕ → ℕ
-refusalOf rs s = firstRefusal (rs .ofCall ++ (refuse 2 (not (sound s)) ∷ rs .ofBook))
+-- between them, refusal 2: the book isn't sound, its length included. Which book, and in which form, is the call's own condition.
+abbrev pub refusalOf : Refusals → Bool → ℕ
+refusalOf rs isSound = firstRefusal (rs .ofCall ++ (refuse 2 (not isSound) ∷ rs .ofBook))
 
 abbrev pub isAccepted : ℕ → Bool
 isAccepted n = eqb n 0

@@ -1,14 +1,14 @@
 -- A book's bytes: its records, what makes them sound, the orders that they hold, and the bytes of a list of orders.
-use Prim.Native.Nat.{ℕ, zero, suc, _-_, _*_, _/_, _%_}
+use Prim.Native.Nat.{ℕ, _-_, _*_, _/_, _%_}
 use mathlib.Core.Bool.{Bool, true, cond, not, _&&_}
 use mathlib.Core.List.{List, [], _∷_, _++_, map}
 use lib.ListN.{length, getD, take, drop, replicate}
 use lib.Dec.{leb, ltb, eqb}
 use Rattle.units.specs.Lists.{all, any, flatMap, isZero}
 use Rattle.orders.specs.declared.order.Order.{Order}
-use Rattle.record.specs.Codec.{Form, formBytes}
 use Rattle.orders.specs.Order.{sideNumber, priceOf}
-use Rattle.record.specs.Record.{orderForm, encodeOrder, decodeOrder, recordSound}
+use Rattle.record.specs.Codec.{recordsOf}
+use Rattle.record.specs.Record.{OrderForm, newForm, orderBytes, encodeOrder, decodeOrder, recordSound}
 
 -- a book has room for at most 256 orders
 abbrev pub mostOrders : ℕ
@@ -43,15 +43,14 @@ behind [] = []
 behind (r ∷ rs) = cond (isUnused r) (r ∷ rs) (behind rs)
 
 -- Books of any form of record.
-module _ (f : Form) where
+module _ (f : OrderForm) where
   -- the first n records of a buffer
   abbrev pub firstRecords : ℕ → List ℕ → List (List ℕ)
-  firstRecords zero s = []
-  firstRecords (suc n) s = take (formBytes f) s ∷ firstRecords n (drop (formBytes f) s)
+  firstRecords n s = recordsOf (f .layout) n s
 
   -- how many records a buffer has room for
   abbrev pub capacityIn : List ℕ → ℕ
-  capacityIn s = length s / formBytes f
+  capacityIn s = length s / orderBytes f
 
   -- all its records
   abbrev pub recordsIn : List ℕ → List (List ℕ)
@@ -65,8 +64,8 @@ module _ (f : Form) where
   -- numbers rise, and setter marks are one per side and price. Buys and sells may overlap in price.
   abbrev pub soundIn : List ℕ → Bool
   soundIn s =
-      leb (length s) (mostOrders * formBytes f)
-      && isZero (length s % formBytes f)
+      leb (length s) (mostOrders * orderBytes f)
+      && isZero (length s % orderBytes f)
       && all (recordSound f) (occupied (recordsIn s))
       && all (all isZero) (behind (recordsIn s))
       && rising 0 (ordersIn s)
@@ -74,18 +73,18 @@ module _ (f : Form) where
 
   -- a book with room for `capacity` orders that has these, zeros behind them
   abbrev pub bookIn : ℕ → List Order → List ℕ
-  bookIn capacity os = flatMap (encodeOrder f) os ++ replicate (formBytes f * (capacity - length os)) 0
+  bookIn capacity os = flatMap (encodeOrder f) os ++ replicate (orderBytes f * (capacity - length os)) 0
 
   -- the orders of the first n records
   abbrev pub firstOrdersIn : ℕ → List ℕ → List Order
   firstOrdersIn n s = map (decodeOrder f) (firstRecords n s)
 
 -- the form of a book's records: 40 bytes, so a book is 0 to 10,240 bytes
-abbrev pub form : Form
-form = orderForm
+abbrev pub form : OrderForm
+form = newForm
 
 abbrev pub recordBytes : ℕ
-recordBytes = formBytes form
+recordBytes = orderBytes form
 
 unfoldable pub sound : List ℕ → Bool
 sound s = soundIn form s

@@ -26,7 +26,7 @@ pub fn order_at(book: &[u8], at: usize) -> Order
 // The numbers of the record that begins at a byte.
 pub fn numbers_at(book: &[u8], at: usize) -> Numbers
     requires { ⌜ at + 40 ≤ length (now book) ⌝ }
-    ensures { λ r. ⌜ r ≡ namedNumbers (decode form (take 40 (drop at (now (book .entry))))) ⌝ }
+    ensures { λ r. ⌜ r ≡ namedNumbers (decode (form .layout) (take 40 (drop at (now (book .entry))))) ⌝ }
 {
     order_record::numbers_of(&book[at..at + RECORD_BYTES])
 }

@@ -142,13 +142,13 @@ module _ (d : Desk) (r : Ready d) where
 
   -- the refusals of each call
   abbrev adds : AddRequest → List Refusal
-  adds q = refusalsOf (addRefusals q (capacityOf (d .book)) (ordersOf (d .book))) (d .book)
+  adds q = refusalsOf (addRefusals q (capacityOf (d .book)) (ordersOf (d .book))) (sound (d .book))
 
   abbrev reduces : ℕ → ℕ → List Refusal
-  reduces n shares = refusalsOf (reduceRefusals n shares (ordersOf (d .book))) (d .book)
+  reduces n shares = refusalsOf (reduceRefusals n shares (ordersOf (d .book))) (sound (d .book))
 
   abbrev takes : TakeRequest → List Refusal
-  takes q = refusalsOf (takeRefusals q (outcomeOf q (ordersOf (d .book)) .executions) (d .executions)) (d .book)
+  takes q = refusalsOf (takeRefusals q (outcomeOf q (ordersOf (d .book)) .executions) (d .executions)) (sound (d .book))
 
   -- what an accepted take lists
   abbrev listed : TakeRequest → Answer

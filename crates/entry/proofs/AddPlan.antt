@@ -129,7 +129,7 @@ module _ (q : AddRequest) (s : List ℕ) where
   pub plan-refused : (r : ℕ) → Refused r ≡ addPlan q s → Refuses (addCall q s) s r
   unfolding addPlan addCall
   plan-refused r e =
-      let c = refusalOf (addRefusals q (capacityOf s) (ordersOf s)) s in
+      let c = refusalOf (addRefusals q (capacityOf s) (ordersOf s)) (sound s) in
       let h = refused c (40 * length (ordersOf s)) (newOrder q s) r e in
       rw (h .0) (refuses c s (bookOf (capacityOf s) (added roundLot q (ordersOf s))) (h .1))
 

@@ -77,9 +77,9 @@ module _ (lot : ℕ) (q : AddRequest) (os : List Order) where
 -- An accepted add.
 module _ (q : AddRequest) (s : List ℕ) (e : addCall q s .refusal ≡ 0) where
   -- its book is sound, and none of its refusals holds
-  pub add-accepted : Accepted (addRefusals q (capacityOf s) (ordersOf s)) s
+  pub add-accepted : Accepted (addRefusals q (capacityOf s) (ordersOf s)) (sound s)
   unfolding addCall
-  add-accepted = accepted (addRefusals q (capacityOf s) (ordersOf s)) s refl e
+  add-accepted = accepted (addRefusals q (capacityOf s) (ordersOf s)) (sound s) refl e
 
   -- the orders that it leaves are sound
   pub add-orders-sound : OrdersSound (added roundLot q (ordersOf s))

@@ -250,7 +250,7 @@ module _ (n shares : ℕ) (s : List ℕ) where
   pub plan-refused : (r : ℕ) → Refused r ≡ reducePlan n shares s → Refuses (reduceCall n shares s) s r
   unfolding reducePlan reduceCall
   plan-refused r e =
-      let c = refusalOf (reduceRefusals n shares (ordersOf s)) s in
+      let c = refusalOf (reduceRefusals n shares (ordersOf s)) (sound s) in
       let h = refused c (findCall n s .start) left r e in
       rw (h .0) (refuses c s (bookOf (capacityOf s) (reduced n shares (ordersOf s))) (h .1))
 

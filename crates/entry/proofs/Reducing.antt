@@ -67,9 +67,9 @@ module _ (n shares : ℕ) where
   -- An accepted reduce.
   module _ (s : List ℕ) (e : reduceCall n shares s .refusal ≡ 0) where
     -- its book is sound, and none of its refusals holds
-    pub reduce-accepted : Accepted (reduceRefusals n shares (ordersOf s)) s
+    pub reduce-accepted : Accepted (reduceRefusals n shares (ordersOf s)) (sound s)
     unfolding reduceCall
-    reduce-accepted = accepted (reduceRefusals n shares (ordersOf s)) s refl e
+    reduce-accepted = accepted (reduceRefusals n shares (ordersOf s)) (sound s) refl e
 
     settling : reduced n shares (ordersOf s) ≡ filter isResting (zipWith settled (map reductionOf (ordersOf s)) (ordersOf s))
     settling = reduced-settled (ordersOf s) (orders-sound s (reduce-accepted .book) .each)

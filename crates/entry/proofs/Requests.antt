@@ -6,10 +6,11 @@ use mathlib.Core.List.{List, [], _∷_}
 use native.Mathlib.Omega.{arith}
 use lib.Dec.{eqb}
 use Rattle.units.specs.Lists.{inRange, orZero, isZero}
+use Rattle.units.proofs.Tests.{true-and}
 use Rattle.units.proofs.Facts.{chain-true, range-true}
 use Rattle.orders.specs.Order.{kindOf, isDisplayed, numberInRange, priceInRange, sharesInRange, minimumInRange, reserveInRange}
 use Rattle.record.specs.Record.{orderOf}
-use Rattle.record.proofs.Rows.{setter-of, all-passed}
+use Rattle.record.proofs.Rows.{setter-of, all-passed, all-told}
 use Rattle.record.proofs.Orders.{OrderSound, row-sound}
 use Rattle.entry.specs.declared.admission.AddRequest.{AddRequest}
 use Rattle.entry.specs.Add.{requestInRange, requested}
@@ -56,4 +57,5 @@ module _ (q : AddRequest) where
       let mark =
       mark-test b (eqb (q .kind) 1 || eqb (q .kind) 4) (λ f. displayed-kind (q .kind) (q .minimum) (q .hidden) (q .refresh) (k .0) (h f)) in
       subst⁻¹ OrderSound (requested-row b)
-      (row-sound (row b) (all-passed (row b) (t .0) (k .0) (k .1 .0) (p .0) (p .1 .0) (m .0) mark refl refl refl (m .1 .0)) refl)
+      (row-sound (row b)
+      (true-and (all-passed (row b) (t .0) (k .1 .0) (p .0) (p .1 .0) (m .0) mark refl) (all-told (row b) (k .0) refl refl (m .1 .0))))

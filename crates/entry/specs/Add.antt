@@ -11,7 +11,7 @@ use Rattle.orders.specs.Order.{sideOf, kindOf, minimumOf, isDisplayed, priceOf,
 use Rattle.orders.specs.Order.{numberInRange, priceInRange, sharesInRange, minimumInRange, reserveInRange}
 use Rattle.orders.specs.Trading.{isOpposite, isPricedBetter, isTradable, asTaker}
 use Rattle.entry.specs.declared.admission.AddRequest.{AddRequest}
-use Rattle.book.specs.Sound.{ordersOf, bookOf, capacityOf}
+use Rattle.book.specs.Sound.{sound, ordersOf, bookOf, capacityOf}
 use Rattle.book.specs.Refusal.{Refusals, refuse, refusalOf, Changed, changedUnless}
 
 -- the numbers that add is given are in their ranges, the last three by the kind; add wants shown equal to refresh of a reserve order
@@ -68,4 +68,4 @@ added lot q os = os ++ (requested q (setsPrice lot (requested q false) os) ∷ [
 unfoldable pub addCall : AddRequest → List ℕ → Changed
 addCall q s =
     let os = ordersOf s in
-    changedUnless (refusalOf (addRefusals q (capacityOf s) os) s) s (bookOf (capacityOf s) (added roundLot q os))
+    changedUnless (refusalOf (addRefusals q (capacityOf s) os) (sound s)) s (bookOf (capacityOf s) (added roundLot q os))

@@ -8,7 +8,7 @@ use lib.Dec.{eqb}
 use Rattle.units.specs.Lists.{all, sameNumbers}
 use Rattle.record.specs.Codec.{encode, decode}
 use Rattle.orders.specs.Order.{withInterest, settled}
-use Rattle.record.specs.Record.{numbersOf, orderOf, numbersSound}
+use Rattle.record.specs.Record.{numbersOf, orderOf, numbersSound, newTells}
 use Rattle.book.specs.Sound.{sound, ordersOf, bookOf}
 use Rattle.book.specs.Refusal.{Changed}
 use Rattle.entry.specs.Add.{requested, setsPrice, added, addCall}
@@ -149,29 +149,29 @@ reducing =
     refusal (reduceCall 7 151 hides50) 7 ∷ []
 
 beyond-worked : all (λ b. b) beyond ≡ true
-unfolding beyond two one empty refusal add enter addCall added setsPrice requested sound ordersOf bookOf encode decode numbersOf orderOf numbersSound withInterest settled
+unfolding beyond two one empty refusal add enter addCall added setsPrice requested sound ordersOf bookOf encode decode numbersOf orderOf numbersSound newTells withInterest settled
 beyond-worked = refl
 
 reserving-worked : all (λ b. b) reserving ≡ true
-unfolding reserving two one hides50 empty holds refusal reserve add enter addCall added setsPrice requested sound ordersOf bookOf encode decode numbersOf orderOf numbersSound withInterest settled
+unfolding reserving two one hides50 empty holds refusal reserve add enter addCall added setsPrice requested sound ordersOf bookOf encode decode numbersOf orderOf numbersSound newTells withInterest settled
 reserving-worked = refl
 
 refusing-worked : all (λ b. b) refusing ≡ true
-unfolding refusing two one hides50 least550 empty refusal reserve add enter addCall added setsPrice requested reduceCall reduced sound ordersOf bookOf encode decode numbersOf orderOf numbersSound withInterest settled
+unfolding refusing two one hides50 least550 empty refusal reserve add enter addCall added setsPrice requested reduceCall reduced sound ordersOf bookOf encode decode numbersOf orderOf numbersSound newTells withInterest settled
 refusing-worked = refl
 
 marking-worked : all (λ b. b) marking ≡ true
-unfolding marking two one empty marks refusal reserve add enter addCall added setsPrice requested sound ordersOf bookOf encode decode numbersOf orderOf numbersSound withInterest settled
+unfolding marking two one empty marks refusal reserve add enter addCall added setsPrice requested sound ordersOf bookOf encode decode numbersOf orderOf numbersSound newTells withInterest settled
 marking-worked = refl
 
 showing-worked : all (λ b. b) showing ≡ true
-unfolding showing two one empty marks refusal reserve add enter addCall added setsPrice requested sound ordersOf bookOf encode decode numbersOf orderOf numbersSound withInterest settled
+unfolding showing two one empty marks refusal reserve add enter addCall added setsPrice requested sound ordersOf bookOf encode decode numbersOf orderOf numbersSound newTells withInterest settled
 showing-worked = refl
 
 hindering-worked : all (λ b. b) hindering ≡ true
-unfolding hindering hides50 empty marks refusal reserve add enter addCall added setsPrice requested sound ordersOf bookOf encode decode numbersOf orderOf numbersSound withInterest settled
+unfolding hindering hides50 empty marks refusal reserve add enter addCall added setsPrice requested sound ordersOf bookOf encode decode numbersOf orderOf numbersSound newTells withInterest settled
 hindering-worked = refl
 
 reducing-worked : all (λ b. b) reducing ≡ true
-unfolding reducing two one hides50 empty holds refusal reserve add enter addCall added setsPrice requested reduceCall reduced sound ordersOf bookOf encode decode numbersOf orderOf numbersSound withInterest settled
+unfolding reducing two one hides50 empty holds refusal reserve add enter addCall added setsPrice requested reduceCall reduced sound ordersOf bookOf encode decode numbersOf orderOf numbersSound newTells withInterest settled
 reducing-worked = refl

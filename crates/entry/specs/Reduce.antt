@@ -6,7 +6,7 @@ use lib.Dec.{ltb}
 use Rattle.units.specs.Lists.{any, filter}
 use Rattle.orders.specs.declared.order.Order.{Order}
 use Rattle.orders.specs.Order.{Interest, interest, interestOf, allShares, settled, isResting, numberInRange, sharesInRange}
-use Rattle.book.specs.Sound.{ordersOf, bookOf, capacityOf}
+use Rattle.book.specs.Sound.{sound, ordersOf, bookOf, capacityOf}
 use Rattle.book.specs.Refusal.{Refusals, refuse, refusalOf, Changed, changedUnless}
 use Rattle.book.specs.Lookup.{hasNumber, isUnknown}
 
@@ -37,4 +37,4 @@ reduced n shares os = filter isResting (map (λ o. reducedIf (hasNumber n o) sha
 unfoldable pub reduceCall : ℕ → ℕ → List ℕ → Changed
 reduceCall n shares s =
     let os = ordersOf s in
-    changedUnless (refusalOf (reduceRefusals n shares os) s) s (bookOf (capacityOf s) (reduced n shares os))
+    changedUnless (refusalOf (reduceRefusals n shares os) (sound s)) s (bookOf (capacityOf s) (reduced n shares os))

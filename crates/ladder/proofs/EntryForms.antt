@@ -5,7 +5,7 @@ use mathlib.Core.Bool.{_&&_}
 use mathlib.Core.List.{List}
 use Rattle.units.specs.Lots.{roundLot}
 use Rattle.orders.specs.Order.{numberInRange, sharesInRange}
-use Rattle.book.specs.Sound.{ordersOf, bookOf, capacityOf}
+use Rattle.book.specs.Sound.{sound, ordersOf, bookOf, capacityOf}
 use Rattle.book.specs.Refusal.{refusalOf}
 use Rattle.book.proofs.Refusing.{book-refused}
 use Rattle.entry.specs.declared.admission.AddRequest.{AddRequest}
@@ -15,7 +15,7 @@ use Rattle.entry.proofs.Adding.{add-sound}
 use Rattle.entry.proofs.Reducing.{reduce-sound}
 use Rattle.ladder.proofs.Forms.{Plain}
 
-pub add-same : (q : AddRequest) (s : List ℕ) → addCall q s .refusal ≡ refusalOf (addRefusals q (capacityOf s) (ordersOf s)) s
+pub add-same : (q : AddRequest) (s : List ℕ) → addCall q s .refusal ≡ refusalOf (addRefusals q (capacityOf s) (ordersOf s)) (sound s)
 unfolding addCall
 add-same q s = refl
 
@@ -33,7 +33,7 @@ add-plain q s = record {
   keeps = add-sound q s;
 }
 
-pub reduce-same : (n shares : ℕ) (s : List ℕ) → reduceCall n shares s .refusal ≡ refusalOf (reduceRefusals n shares (ordersOf s)) s
+pub reduce-same : (n shares : ℕ) (s : List ℕ) → reduceCall n shares s .refusal ≡ refusalOf (reduceRefusals n shares (ordersOf s)) (sound s)
 unfolding reduceCall
 reduce-same n shares s = refl
 

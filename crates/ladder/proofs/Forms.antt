@@ -41,11 +41,11 @@ none-given (x ∷ xs) ys u y z e = go (x .holds) e (none-given xs ys u y z)
 
 module _ (rs : Refusals) (s l : List ℕ) where
   -- a form that is accepted is so as the plain call
-  form-accepted : refusalOf (withLadder s l rs) s ≡ 0 → refusalOf rs s ≡ 0
+  form-accepted : refusalOf (withLadder s l rs) (sound s) ≡ 0 → refusalOf rs (sound s) ≡ 0
   form-accepted e = none-given (rs .ofCall) (rs .ofBook) (not (sound s)) (isOtherLength l) (isOtherLadder s l) e
 
   -- with the book's own ladder it is refused what the plain call is
-  own-refusal : l ≡ madeOf s → refusalOf (withLadder s l rs) s ≡ refusalOf rs s
+  own-refusal : l ≡ madeOf s → refusalOf (withLadder s l rs) (sound s) ≡ refusalOf rs (sound s)
   own-refusal e = skipped (rs .ofCall) (rs .ofBook) (not (sound s)) (isOtherLength l) (isOtherLadder s l) own
     where
       own : not (sound s) ≡ false → (isOtherLength l ≡ false) × (isOtherLadder s l ≡ false)
@@ -60,7 +60,7 @@ pub record Plain (s : List ℕ) : Type 0 where
   pub inRange : Bool
   pub ofBook : List Refusal
   pub call : Changed
-  pub same : call .refusal ≡ refusalOf (record { ofCall = refuse 1 (not inRange) ∷ []; ofBook = ofBook }) s
+  pub same : call .refusal ≡ refusalOf (record { ofCall = refuse 1 (not inRange) ∷ []; ofBook = ofBook }) (sound s)
   pub leaves : (call .refusal ≡ 0 → ⊥) → call .book ≡ s
   pub keeps : call .refusal ≡ 0 → sound (call .book) ≡ true
 

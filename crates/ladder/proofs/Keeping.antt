@@ -104,13 +104,13 @@ module _ (s l : List ℕ) (c : Seen) (k : c ≡ seenOf s l) where
     refusals b = record { ofCall = refuse 1 (not b) ∷ []; ofBook = rs }
 
     -- it is refused what was seen
-    pub form-refused : {b : Bool} → b ≡ true → (c .refusal ≡ 0 → ⊥) → refusalOf (withLadder s l (refusals b)) s ≡ c .refusal
+    pub form-refused : {b : Bool} → b ≡ true → (c .refusal ≡ 0 → ⊥) → refusalOf (withLadder s l (refusals b)) (sound s) ≡ c .refusal
     unfolding three
     form-refused t n =
         rw t (one-holds (not (sound s)) (isOtherLength l) (isOtherLadder s l) (firstRefusal rs) (λ z. n (refusal-is ∙ z)) ∙ sym refusal-is)
 
     -- or what the plain call is refused
-    pub form-plain : {b : Bool} → b ≡ true → c .refusal ≡ 0 → refusalOf (withLadder s l (refusals b)) s ≡ refusalOf (refusals b) s
+    pub form-plain : {b : Bool} → b ≡ true → c .refusal ≡ 0 → refusalOf (withLadder s l (refusals b)) (sound s) ≡ refusalOf (refusals b) (sound s)
     form-plain t a =
         let h = none-holds (not (sound s)) (isOtherLength l) (isOtherLadder s l) 0 (sym refusal-is ∙ a) in
         rw (t, h .0, h .1, h .2)

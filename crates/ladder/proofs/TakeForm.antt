@@ -30,7 +30,7 @@ module _ (q : TakeRequest) (s x l : List ℕ) where
   abbrev form : TakeKept
   form = takeLadderCall q s x l
 
-  pub same : plain .taken .refusal ≡ refusalOf (takeRefusals q (outcomeOf q (ordersOf s) .executions) x) s
+  pub same : plain .taken .refusal ≡ refusalOf (takeRefusals q (outcomeOf q (ordersOf s) .executions) x) (sound s)
   unfolding takeCall
   same = refl
 

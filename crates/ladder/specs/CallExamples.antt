@@ -8,7 +8,7 @@ use lib.Dec.{eqb}
 use Rattle.units.specs.Lists.{all, sameNumbers}
 use Rattle.orders.specs.Order.{withInterest, settled}
 use Rattle.record.specs.Codec.{encode, decode}
-use Rattle.record.specs.Record.{numbersOf, orderOf, numbersSound}
+use Rattle.record.specs.Record.{numbersOf, orderOf, numbersSound, newTells}
 use Rattle.book.specs.Sound.{sound, ordersOf, bookOf}
 use Rattle.sharing.specs.Round.{round, goesRound}
 use Rattle.sharing.specs.Lots.{lotSharing}
@@ -46,7 +46,7 @@ kept-worked : all (λ b. b)
     sameNumbers (two .ladder) (madeOf (two .book)) ∷
     eqb (getD (two .ladder) 4 0) 0xa0 ∷
     eqb (getD (two .ladder) 28 0) 0x04 ∷ []) ≡ true
-unfolding two one empty add addLadderCall addCall added setsPrice requested sound ordersOf bookOf ladderOf rowsOf rowOf joined encode decode numbersOf orderOf numbersSound
+unfolding two one empty add addLadderCall addCall added setsPrice requested sound ordersOf bookOf ladderOf rowsOf rowOf joined encode decode numbersOf orderOf numbersSound newTells
 kept-worked = refl
 
 refusal : Kept → ℕ → Bool
@@ -79,7 +79,7 @@ new-worked : all (λ b. b)
     sameNumbers (ladderCall (two .book) long .ladder) long ∷
     eqb (ladderCall (two .book) wrong .refusal) 0 ∷
     sameNumbers (ladderCall (two .book) (replicate 6144 255) .ladder) (two .ladder) ∷ []) ≡ true
-unfolding unsound wrong short long ladderCall two one empty add addLadderCall addCall added setsPrice requested sound ordersOf bookOf ladderOf rowsOf rowOf joined encode decode numbersOf orderOf numbersSound
+unfolding unsound wrong short long ladderCall two one empty add addLadderCall addCall added setsPrice requested sound ordersOf bookOf ladderOf rowsOf rowOf joined encode decode numbersOf orderOf numbersSound newTells
 new-worked = refl
 
 -- a form: 1, then 2, then 9, then 10, then what the plain call is refused
@@ -92,7 +92,7 @@ order-worked : all (λ b. b)
     leaves (add 1 1 9 5 5 (two .book) (two .ladder)) 4 (two .book) (two .ladder) ∷
     refusal (reduceLadderCall 8 5 (two .book) (one .ladder)) 10 ∷
     refusal (reduceLadderCall 8 5 (two .book) (two .ladder)) 3 ∷ []) ≡ true
-unfolding refusal leaves unsound short long reduceLadderCall reduceCall reduced withInterest settled two one empty add addLadderCall addCall added setsPrice requested sound ordersOf bookOf ladderOf rowsOf rowOf joined encode decode numbersOf orderOf numbersSound
+unfolding refusal leaves unsound short long reduceLadderCall reduceCall reduced withInterest settled two one empty add addLadderCall addCall added setsPrice requested sound ordersOf bookOf ladderOf rowsOf rowOf joined encode decode numbersOf orderOf numbersSound newTells
 order-worked = refl
 
 -- so with 5, 6 and 7: behind 9 and 10
@@ -106,18 +106,18 @@ behind-worked : all (λ b. b)
     refusal (reduceLadderCall 9 401 (two .book) short) 9 ∷
     refusal (reduceLadderCall 9 401 (two .book) (one .ladder)) 10 ∷
     refusal (reduceLadderCall 9 401 (two .book) (two .ladder)) 7 ∷ []) ≡ true
-unfolding refusal short reduceLadderCall reduceCall reduced withInterest settled three two one empty add addLadderCall addCall added setsPrice requested sound ordersOf bookOf ladderOf rowsOf rowOf joined encode decode numbersOf orderOf numbersSound
+unfolding refusal short reduceLadderCall reduceCall reduced withInterest settled three two one empty add addLadderCall addCall added setsPrice requested sound ordersOf bookOf ladderOf rowsOf rowOf joined encode decode numbersOf orderOf numbersSound newTells
 behind-worked = refl
 
 -- the ladder is compared to its last byte
 tail-worked : leaves (add 1 1 10 5 5 (two .book) wrong) 10 (two .book) wrong ≡ true
-unfolding refusal leaves wrong two one empty add addLadderCall addCall added setsPrice requested sound ordersOf bookOf ladderOf rowsOf rowOf joined encode decode numbersOf orderOf numbersSound
+unfolding refusal leaves wrong two one empty add addLadderCall addCall added setsPrice requested sound ordersOf bookOf ladderOf rowsOf rowOf joined encode decode numbersOf orderOf numbersSound newTells
 tail-worked = refl
 
 -- a level's only order leaves, and its row with it; then the ladder is that of the one order before
 left-worked : let k = reduceLadderCall 9 400 (two .book) (two .ladder) in
     (refusal k 0 && sameNumbers (k .book) (one .book) && sameNumbers (k .ladder) (one .ladder)) ≡ true
-unfolding refusal reduceLadderCall reduceCall reduced withInterest settled two one empty add addLadderCall addCall added setsPrice requested sound ordersOf bookOf ladderOf rowsOf rowOf joined encode decode numbersOf orderOf numbersSound
+unfolding refusal reduceLadderCall reduceCall reduced withInterest settled two one empty add addLadderCall addCall added setsPrice requested sound ordersOf bookOf ladderOf rowsOf rowOf joined encode decode numbersOf orderOf numbersSound newTells
 left-worked = refl
 
 -- a buy up to a limit under pro rata, with an execution buffer
@@ -135,13 +135,13 @@ taken-worked : let k = take 100100 600 (replicate 32 0) in
     && sameNumbers (drop 24 (k .ladder)) (replicate 6120 0)
     && sameNumbers (take 99999 600 [] .ladder) (two .ladder)
     && eqb (take 99999 600 [] .taken .left) 600) ≡ true
-unfolding take takeLadderCall takeCall written outcomeOf outcome lossesOf executionsOf allocations allocationsOver allocationsAt allocationAt partOf priceLevels setterSharing besideSetter lotSharing round goesRound withInterest settled two one empty add addLadderCall addCall added setsPrice requested sound ordersOf bookOf ladderOf rowsOf rowOf joined encode decode numbersOf orderOf numbersSound
+unfolding take takeLadderCall takeCall written outcomeOf outcome lossesOf executionsOf allocations allocationsOver allocationsAt allocationAt partOf priceLevels setterSharing besideSetter lotSharing round goesRound withInterest settled two one empty add addLadderCall addCall added setsPrice requested sound ordersOf bookOf ladderOf rowsOf rowOf joined encode decode numbersOf orderOf numbersSound newTells
 taken-worked = refl
 
 -- without room for its executions it leaves the ladder
 no-room-worked : let k = take 100100 600 (replicate 31 0) in
     (eqb (k .taken .refusal) 8 && eqb (k .taken .count) 0 && sameNumbers (k .ladder) (two .ladder) && sameNumbers (k .executions) (replicate 31 0)) ≡ true
-unfolding take takeLadderCall takeCall written outcomeOf outcome lossesOf executionsOf allocations allocationsOver allocationsAt allocationAt partOf priceLevels setterSharing besideSetter lotSharing round goesRound withInterest settled two one empty add addLadderCall addCall added setsPrice requested sound ordersOf bookOf ladderOf rowsOf rowOf joined encode decode numbersOf orderOf numbersSound
+unfolding take takeLadderCall takeCall written outcomeOf outcome lossesOf executionsOf allocations allocationsOver allocationsAt allocationAt partOf priceLevels setterSharing besideSetter lotSharing round goesRound withInterest settled two one empty add addLadderCall addCall added setsPrice requested sound ordersOf bookOf ladderOf rowsOf rowOf joined encode decode numbersOf orderOf numbersSound newTells
 no-room-worked = refl
 
 -- refused for the ladder it takes nothing, where the plain take has two executions and leaves 100 shares
@@ -162,7 +162,7 @@ other-ladder-worked : all (λ b. b)
     untaken 9 (replicate 31 0) short ∷
     untaken 10 (replicate 31 0) (one .ladder) ∷
     untaken 8 (replicate 31 0) (two .ladder) ∷ []) ≡ true
-unfolding untaken short takeLadderCall takeCall written outcomeOf outcome lossesOf executionsOf allocations allocationsOver allocationsAt allocationAt partOf priceLevels setterSharing besideSetter lotSharing round goesRound withInterest settled two one empty add addLadderCall addCall added setsPrice requested sound ordersOf bookOf ladderOf rowsOf rowOf joined encode decode numbersOf orderOf numbersSound
+unfolding untaken short takeLadderCall takeCall written outcomeOf outcome lossesOf executionsOf allocations allocationsOver allocationsAt allocationAt partOf priceLevels setterSharing besideSetter lotSharing round goesRound withInterest settled two one empty add addLadderCall addCall added setsPrice requested sound ordersOf bookOf ladderOf rowsOf rowOf joined encode decode numbersOf orderOf numbersSound newTells
 other-ladder-worked = refl
 
 -- what a form sees first: refusals 2, 9 and 10, and else the numbers of orders and of rows
@@ -174,5 +174,5 @@ seen-worked : all (λ b. b)
     seen (two .book) short (9 ∷ 0 ∷ 0 ∷ []) ∷
     seen (two .book) (one .ladder) (10 ∷ 0 ∷ 0 ∷ []) ∷
     seen (three .book) (three .ladder) (0 ∷ 3 ∷ 2 ∷ []) ∷ []) ≡ true
-unfolding seen seenOf three unsound short two one empty add addLadderCall addCall added setsPrice requested sound ordersOf bookOf ladderOf rowsOf rowOf joined encode decode numbersOf orderOf numbersSound
+unfolding seen seenOf three unsound short two one empty add addLadderCall addCall added setsPrice requested sound ordersOf bookOf ladderOf rowsOf rowOf joined encode decode numbersOf orderOf numbersSound newTells
 seen-worked = refl

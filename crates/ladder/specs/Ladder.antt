@@ -6,7 +6,7 @@ use lib.ListN.{length, replicate}
 use lib.Dec.{eqb}
 use Rattle.units.specs.Lists.{flatMap, orZero, sameNumbers}
 use Rattle.orders.specs.declared.order.Order.{Order}
-use Rattle.book.specs.Sound.{mostOrders, ordersOf, capacityOf}
+use Rattle.book.specs.Sound.{sound, mostOrders, ordersOf, capacityOf}
 use Rattle.book.specs.Refusal.{Refusals, refuse, refusalOf, isAccepted, Changed}
 use Rattle.entry.specs.declared.admission.AddRequest.{AddRequest}
 use Rattle.entry.specs.Add.{addRefusals, addCall}
@@ -48,7 +48,7 @@ pub record LadderAnswer : Type 0 where
 
 unfoldable pub ladderCall : List ℕ → List ℕ → LadderAnswer
 ladderCall s l =
-    let r = refusalOf (ladderRefusals l) s in
+    let r = refusalOf (ladderRefusals l) (sound s) in
     record { refusal = r; ladder = cond (isAccepted r) (madeOf s) l }
 
 -- A call that keeps a ladder has the refusals of the plain call, and directly after 2 the two of the ladder.
@@ -71,7 +71,7 @@ pub record Kept : Type 0 where
 -- with the refusals of the plain call, and what that gives
 abbrev pub keeping : Refusals → Changed → List ℕ → List ℕ → Kept
 keeping rs plain s l =
-    let r = refusalOf (withLadder s l rs) s in
+    let r = refusalOf (withLadder s l rs) (sound s) in
     let b = cond (isAccepted r) (plain .book) s in
     record { refusal = r; book = b; ladder = keptLadder r b l }
 

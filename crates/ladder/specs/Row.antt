@@ -3,8 +3,7 @@ use Prim.Native.Nat.{ℕ}
 use mathlib.Core.List.{List, [], _∷_, map}
 use lib.ListN.{getD}
 use Rattle.orders.specs.Order.{sideNumber, sideOf}
-use Rattle.record.specs.Codec.{Form, formBytes, encode, decode}
-use Rattle.book.specs.Sound.{firstRecords}
+use Rattle.record.specs.Codec.{Form, formBytes, encode, decode, recordsOf}
 use Rattle.ladder.specs.declared.row.Row.{Row}
 
 -- mark 4C 44 hex, side, a zero byte, price, displayed shares, other shares, order count, six zero bytes
@@ -37,4 +36,4 @@ decodeRow s = rowFrom (decode rowForm s)
 
 -- the first n rows of a ladder
 abbrev pub rowsIn : ℕ → List ℕ → List Row
-rowsIn n l = map decodeRow (firstRecords rowForm n l)
+rowsIn n l = map decodeRow (recordsOf rowForm n l)

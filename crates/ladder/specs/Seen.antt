@@ -3,7 +3,7 @@ use Prim.Native.Nat.{ℕ}
 use mathlib.Core.List.{List}
 use lib.ListN.{length}
 use Rattle.units.specs.Lists.{orZero}
-use Rattle.book.specs.Sound.{ordersOf}
+use Rattle.book.specs.Sound.{sound, ordersOf}
 use Rattle.book.specs.Refusal.{refusalOf, isAccepted}
 use Rattle.book.specs.Lookup.{checkRefusals}
 use Rattle.ladder.specs.declared.Seen.{Seen}
@@ -13,7 +13,7 @@ use Rattle.ladder.specs.Ladder.{withLadder}
 -- 2, 9, 10, and the numbers of orders and of rows
 unfoldable pub seenOf : List ℕ → List ℕ → Seen
 seenOf s l =
-    let r = refusalOf (withLadder s l checkRefusals) s in
+    let r = refusalOf (withLadder s l checkRefusals) (sound s) in
     record {
       refusal = r;
       orders = orZero (isAccepted r) (length (ordersOf s));

@@ -42,9 +42,9 @@ module _ (q : TakeRequest) (s x : List ℕ) (e : takeCall q s x .taken .refusal 
   abbrev out : Outcome
   out = outcomeOf q (ordersOf s)
 
-  pub call : Accepted (takeRefusals q (out .executions) x) s
+  pub call : Accepted (takeRefusals q (out .executions) x) (sound s)
   unfolding takeCall
-  call = accepted (takeRefusals q (out .executions) x) s refl e
+  call = accepted (takeRefusals q (out .executions) x) (sound s) refl e
 
   -- the numbers given are in range
   pub in-range : requestInRange q ≡ true

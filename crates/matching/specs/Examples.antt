@@ -16,7 +16,7 @@ use Rattle.orders.specs.declared.order.Order.{Order}
 use Rattle.record.specs.declared.execution.Execution.{Execution}
 use Rattle.record.specs.Codec.{encode, decode}
 use Rattle.orders.specs.Order.{sizeOf, withInterest, settled}
-use Rattle.record.specs.Record.{numbersOf, orderOf, numbersSound}
+use Rattle.record.specs.Record.{numbersOf, orderOf, numbersSound, newTells}
 use Rattle.book.specs.Sound.{sound, ordersOf, bookOf}
 use Rattle.matching.specs.declared.Algorithm.the-variants.{PriceTime, ProRata, PriceSetter}
 use Rattle.matching.specs.Levels.{priceLevels}
@@ -149,11 +149,11 @@ behind : Bool
 behind = sameNumbers (drop 16 (take 1 100100 200 2 book short .executions)) (replicate 15 7)
 
 called : all (λ b. b) calls ≡ true
-unfolding calls short room withMarked damaged book accepted refused take takeCall written outcomeOf outcome lossesOf executionsOf allocations allocationsOver allocationsAt allocationAt partOf priceLevels setterSharing besideSetter lotSharing round goesRound sound ordersOf bookOf encode decode numbersOf orderOf numbersSound withInterest settled
+unfolding calls short room withMarked damaged book accepted refused take takeCall written outcomeOf outcome lossesOf executionsOf allocations allocationsOver allocationsAt allocationAt partOf priceLevels setterSharing besideSetter lotSharing round goesRound sound ordersOf bookOf encode decode numbersOf orderOf numbersSound newTells withInterest settled
 called = refl
 
 behind-kept : behind ≡ true
-unfolding behind short book take takeCall written outcomeOf outcome lossesOf executionsOf allocations allocationsOver allocationsAt allocationAt partOf priceLevels setterSharing besideSetter lotSharing round goesRound sound ordersOf bookOf encode decode numbersOf orderOf numbersSound withInterest settled
+unfolding behind short book take takeCall written outcomeOf outcome lossesOf executionsOf allocations allocationsOver allocationsAt allocationAt partOf priceLevels setterSharing besideSetter lotSharing round goesRound sound ordersOf bookOf encode decode numbersOf orderOf numbersSound newTells withInterest settled
 behind-kept = refl
 
 prices-worked : all (λ b. b) prices ≡ true

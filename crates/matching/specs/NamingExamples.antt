@@ -14,7 +14,7 @@ use Rattle.orders.specs.declared.order.Kind.the-variants.{Displayed, NonDisplay
 use Rattle.orders.specs.declared.order.Order.{Order}
 use Rattle.orders.specs.Order.{shown, hidden, withInterest, settled}
 use Rattle.record.specs.Codec.{encode, decode}
-use Rattle.record.specs.Record.{numbersOf, orderOf, numbersSound}
+use Rattle.record.specs.Record.{numbersOf, orderOf, numbersSound, newTells}
 use Rattle.record.specs.Execution.{executionBytes, encodeExecution, executionOf, decodeExecution}
 use Rattle.book.specs.Sound.{sound, ordersOf, bookOf}
 use Rattle.matching.specs.declared.Algorithm.the-variants.{PriceTime, ProRata}
@@ -68,11 +68,11 @@ values =
     tells 2 350 (bookOf 1 (reserve 1 100 250 100 ∷ [])) (1 ∷ 2 ∷ 0 ∷ 1 ∷ 4 ∷ 0 ∷ []) ∷ []
 
 worked : all (λ b. b) values ≡ true
-unfolding values tells told five k two takeCall written outcomeOf outcome lossesOf executionsOf allocations allocationsOver allocationsAt allocationAt partOf priceLevels setterSharing besideSetter lotSharing round goesRound sound ordersOf bookOf encode decode numbersOf orderOf numbersSound executionOf withInterest settled
+unfolding values tells told five k two takeCall written outcomeOf outcome lossesOf executionsOf allocations allocationsOver allocationsAt allocationAt partOf priceLevels setterSharing besideSetter lotSharing round goesRound sound ordersOf bookOf encode decode numbersOf orderOf numbersSound newTells executionOf withInterest settled
 worked = refl
 
 each-worked : each ≡ true
-unfolding each tells told five takeCall written outcomeOf outcome lossesOf executionsOf allocations allocationsOver allocationsAt allocationAt partOf priceLevels lotSharing round goesRound sound ordersOf bookOf encode decode numbersOf orderOf numbersSound executionOf withInterest settled
+unfolding each tells told five takeCall written outcomeOf outcome lossesOf executionsOf allocations allocationsOver allocationsAt allocationAt partOf priceLevels lotSharing round goesRound sound ordersOf bookOf encode decode numbersOf orderOf numbersSound newTells executionOf withInterest settled
 each-worked = refl
 
 -- a minimum quantity order, and the bytes of an execution of it with this in byte 2

@@ -18,7 +18,7 @@ use Rattle.orders.specs.Order.{shown, hidden, hiddenOf, refreshOf, sizeOf, with
 use Rattle.record.specs.declared.execution.Execution.{Execution}
 use Rattle.record.specs.Codec.{encode, decode}
 use Rattle.record.specs.Execution.{encodeExecution, executionOf}
-use Rattle.record.specs.Record.{numbersOf, orderOf, numbersSound}
+use Rattle.record.specs.Record.{numbersOf, orderOf, numbersSound, newTells}
 use Rattle.book.specs.Sound.{sound, ordersOf, bookOf}
 use Rattle.matching.specs.declared.Algorithm.{Algorithm}
 use Rattle.matching.specs.declared.Algorithm.the-variants.{PriceTime, ProRata, PriceSetter}
@@ -182,7 +182,7 @@ unfolding parts twoOrders
 parts-worked = refl
 
 called-worked : all (λ b. b) called ≡ true
-unfolding called answers take standing twoOrders takeCall written outcomeOf outcome lossesOf executionsOf allocations allocationsOver allocationsAt allocationAt partOf priceLevels lotSharing round goesRound withInterest settled sound ordersOf bookOf encode decode numbersOf orderOf numbersSound
+unfolding called answers take standing twoOrders takeCall written outcomeOf outcome lossesOf executionsOf allocations allocationsOver allocationsAt allocationAt partOf priceLevels lotSharing round goesRound withInterest settled sound ordersOf bookOf encode decode numbersOf orderOf numbersSound newTells
 called-worked = refl
 
 -- Of R 100+30/100 a buy of 100 leaves R 30+0/100, and one of 99 R 1+30/100.

@@ -10,7 +10,7 @@ use Rattle.orders.specs.declared.order.Order.{Order}
 use Rattle.record.specs.declared.execution.Execution.{Execution}
 use Rattle.orders.specs.Order.{sideOf, priceInRange, sharesInRange}
 use Rattle.record.specs.Execution.{executionBytes, encodeExecution}
-use Rattle.book.specs.Sound.{ordersOf, bookOf, capacityOf}
+use Rattle.book.specs.Sound.{sound, ordersOf, bookOf, capacityOf}
 use Rattle.book.specs.Refusal.{Refusals, refuse, refusalOf, isAccepted}
 use Rattle.matching.specs.declared.Taken.{Taken}
 use Rattle.matching.specs.declared.TakeRequest.{TakeRequest}
@@ -54,7 +54,7 @@ pub record TakeAnswer : Type 0 where
 unfoldable pub takeCall : TakeRequest → List ℕ → List ℕ → TakeAnswer
 takeCall q s x =
     let o = outcomeOf q (ordersOf s) in
-    let r = refusalOf (takeRefusals q (o .executions) x) s in
+    let r = refusalOf (takeRefusals q (o .executions) x) (sound s) in
     record {
       taken = record {
         refusal = r;

@@ -1,43 +1,69 @@
 -- A record read by four bytes: its numbers of one byte are in what is read so, and it is sound where that passes the tests.
 use Prim.Native.Nat.{ℕ, zero, suc, _+_, _*_, _/_, _%_, _<_}
-use mathlib.Core.Path.{_≡_, refl, sym, ap, _∙_}
-use mathlib.Core.Bool.{Bool, true, false, _&&_, _||_, and-assoc, and-true}
+use mathlib.Core.Path.{_≡_, refl, sym}
+use mathlib.Core.Bool.{Bool, true, _&&_, _||_}
+use mathlib.Core.Bool as bool
 use mathlib.Core.List.{List, [], _∷_}
 use native.Mathlib.Omega.{arith}
 use borrow.Author.Tests.{ne-eqb}
 use lib.Dec.{eqb}
 use lib.ListN.{getD, take, drop}
 use Rattle.units.specs.Lists.{inRange, isZero}
-use Rattle.units.proofs.Tests.{and-false}
-use Rattle.units.proofs.Facts.{chain, chain-all}
+use Rattle.units.proofs.Tests.{and-true, true-and, and-false, same-test}
+use Rattle.units.proofs.Facts.{chain, chain-true, true-chain}
 use Rattle.orders.specs.Order.{numberInRange, priceInRange, sharesInRange, minimumInRange, reserveInRange}
 use Rattle.record.specs.Codec.{fromBytes, hasMark}
-use Rattle.record.specs.Record.{orderForm, recordSound}
+use Rattle.record.specs.Record.{newForm, newTells, numbersSound, recordSound}
 use Rattle.record.proofs.Reading.{from-more, from-one, zero-parts, decode-at}
-use Rattle.record.proofs.Records.{record-chain}
 
 -- a mark in the lowest byte of a number whose others are zero is that number
 mark-alone : (k : Bool) (b u : ℕ) → b < 256
     → (isZero (b + 256 * u) || (eqb (b + 256 * u) 1 && k)) ≡ ((isZero b || (eqb b 1 && k)) && isZero u)
 mark-alone k b zero h =
     let e : b + 256 * 0 ≡ b = omega arith in
-    rw e (sym (and-true (isZero b || (eqb b 1 && k))))
+    rw e (sym (bool.and-true (isZero b || (eqb b 1 && k))))
 mark-alone k b (suc u) h =
     rw (ne-eqb (b + 256 * suc u) 0 (λ e. omega arith), ne-eqb (b + 256 * suc u) 1 (λ e. omega arith), ne-eqb (suc u) 0 (λ e. omega arith))
     (sym (and-false (isZero b || (eqb b 1 && k)) refl))
 
--- tests at the end of a chain grouped otherwise
-regroup : (m y z a b c : Bool) → ((m && (y && z)) && (a && (b && c))) ≡ (m && (y && (z && ((a && b) && c))))
-regroup false y z a b c = refl
-regroup true false z a b c = refl
-regroup true true false a b c = refl
-regroup true true true a b c = sym (and-assoc a b c)
+-- the tests in the order of the bytes, and in that of the definitions
+module _ (mark side kind number price size minimum setter y z a b reserve : Bool) where
+  abbrev bytewise : List Bool
+  bytewise = kind ∷ number ∷ price ∷ size ∷ minimum ∷ (setter && (y && z)) ∷ a ∷ b ∷ reserve ∷ []
 
-chains : (f m y z a b g : Bool) → chain f ((m && (y && z)) ∷ a ∷ b ∷ g ∷ []) ≡ chain f (m ∷ y ∷ z ∷ (a && b) ∷ g ∷ [])
-chains f m y z a b g =
-    chain-all f ((m && (y && z)) ∷ a ∷ b ∷ g ∷ [])
-    ∙ ap (λ t. f && t) (regroup m y z a b (g && true))
-    ∙ sym (chain-all f (m ∷ y ∷ z ∷ (a && b) ∷ g ∷ []))
+  abbrev common : List Bool
+  common = number ∷ price ∷ size ∷ minimum ∷ setter ∷ (a && b) ∷ []
+
+  abbrev told : List Bool
+  told = y ∷ z ∷ reserve ∷ []
+
+  regroup : chain (mark && side) bytewise ≡ (mark && (chain side common && chain kind told))
+  regroup = same-test _ _ there back
+    where
+      there : chain (mark && side) bytewise ≡ true → (mark && (chain side common && chain kind told)) ≡ true
+      there e =
+          let t = chain-true (mark && side) bytewise e in
+          let m = and-true mark side (t .0) in
+          let n = t .1 .1 in
+          let l = n .1 .1 .1 .1 in
+          let w = and-true setter (y && z) (l .0) in
+          let v = and-true y z (w .1) in
+          true-and (m .0)
+          (true-and
+          (true-chain side common (m .1) (n .0) (n .1 .0) (n .1 .1 .0) (n .1 .1 .1 .0) (w .0) (true-and (l .1 .0) (l .1 .1 .0)))
+          (true-chain kind told (t .1 .0) (v .0) (v .1) (l .1 .1 .1 .0)))
+
+      back : (mark && (chain side common && chain kind told)) ≡ true → chain (mark && side) bytewise ≡ true
+      back e =
+          let m = and-true mark (chain side common && chain kind told) e in
+          let h = and-true (chain side common) (chain kind told) (m .1) in
+          let c = chain-true side common (h .0) in
+          let k = chain-true kind told (h .1) in
+          let n = c .1 in
+          let l = n .1 .1 .1 .1 in
+          let x = and-true a b (l .1 .0) in
+          true-chain (mark && side) bytewise (true-and (m .0) (c .0)) (k .0) (n .0) (n .1 .0) (n .1 .1 .0) (n .1 .1 .1 .0)
+          (true-and (l .0) (true-and (k .1 .0) (k .1 .1 .0))) (x .0) (x .1) (k .1 .1 .1 .0)
 
 module _ (s : List ℕ) (bytes : (k : ℕ) → getD s k 0 < 256) where
   abbrev four : ℕ → ℕ
@@ -58,36 +84,39 @@ module _ (s : List ℕ) (bytes : (k : ℕ) → getD s k 0 < 256) where
   setter-bytes k =
       rw (from-more 3 20 21 s refl, mark-alone k (getD s 20 0) (fromBytes (take 3 (drop 21 s))) (bytes 20), zero-parts 1 2 21 s, from-one 21 s)
 
-  -- a record is sound where what is read by four bytes passes the tests
-  pub sound-by-fours : chain (hasMark orderForm s && inRange 1 2 (four 0 / 65536 % 256)) (
-      inRange 1 4 (four 0 / 16777216) ∷
+  abbrev kind : ℕ
+  kind = four 0 / 16777216
+
+  -- what is read by four bytes passes these tests
+  abbrev fours : List Bool
+  fours =
+      inRange 1 4 kind ∷
       numberInRange (four 4) ∷
       priceInRange (four 8) ∷
       sharesInRange (four 12) ∷
-      minimumInRange (four 0 / 16777216) (four 12) (four 16) ∷
-      (isZero (four 20) || (eqb (four 20) 1 && (eqb (four 0 / 16777216) 1 || eqb (four 0 / 16777216) 4))) ∷
+      minimumInRange kind (four 12) (four 16) ∷
+      (isZero (four 20) || (eqb (four 20) 1 && (eqb kind 1 || eqb kind 4))) ∷
       isZero (four 24) ∷
       isZero (four 28) ∷
-      reserveInRange (four 0 / 16777216) (four 32) (four 36) ∷ []) ≡ recordSound orderForm s
+      reserveInRange kind (four 32) (four 36) ∷ []
+
+  -- a record is sound where it does
+  pub sound-by-fours : chain (hasMark (newForm .layout) s && inRange 1 2 (four 0 / 65536 % 256)) fours ≡ recordSound newForm s
+  unfolding numbersSound newTells
   sound-by-fours =
-      let k = eqb (getD s 3 0) 1 || eqb (getD s 3 0) 4 in
-      let f = chain (hasMark orderForm s && inRange 1 2 (getD s 2 0)) (
-      inRange 1 4 (getD s 3 0) ∷
-      numberInRange (four 4) ∷
-      priceInRange (four 8) ∷
-      sharesInRange (four 12) ∷
-      minimumInRange (getD s 3 0) (four 12) (four 16) ∷ []) in
       rw (
         side-byte,
         kind-byte,
-        setter-bytes k,
-        record-chain orderForm s,
-        decode-at orderForm s,
+        setter-bytes (eqb (getD s 3 0) 1 || eqb (getD s 3 0) 4),
+        decode-at (newForm .layout) s,
         from-one 2 s,
         from-one 3 s,
         from-one 20 s,
         from-one 21 s,
         zero-parts 4 4 24 s,
       )
-      (chains f (isZero (getD s 20 0) || (eqb (getD s 20 0) 1 && k)) (isZero (getD s 21 0)) (isZero (fromBytes (take 2 (drop 22 s))))
-      (isZero (four 24)) (isZero (four 28)) (reserveInRange (getD s 3 0) (four 32) (four 36)))
+      (regroup (hasMark (newForm .layout) s) (inRange 1 2 (getD s 2 0)) (inRange 1 4 (getD s 3 0)) (numberInRange (four 4)) (priceInRange (four 8))
+      (sharesInRange (four 12)) (minimumInRange (getD s 3 0) (four 12) (four 16))
+      (isZero (getD s 20 0) || (eqb (getD s 20 0) 1 && (eqb (getD s 3 0) 1 || eqb (getD s 3 0) 4)))
+      (isZero (getD s 21 0)) (isZero (fromBytes (take 2 (drop 22 s)))) (isZero (four 24)) (isZero (four 28))
+      (reserveInRange (getD s 3 0) (four 32) (four 36)))

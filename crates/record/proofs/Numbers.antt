@@ -1,6 +1,6 @@
 -- Numbers in bytes and rows of numbers in bytes, both ways: one law for every width.
 use Prim.Native.Nat.{ℕ, zero, suc, _+_, _*_, _/_, _%_, _^_, _<_}
-use mathlib.Core.Path.{_≡_, refl, ap, _∙_}
+use mathlib.Core.Path.{_≡_, refl, sym, ap, _∙_}
 use mathlib.Core.List.{List, [], _∷_, _++_, append-assoc}
 use native.Mathlib.Omega.{arith}
 use native.Mathlib.Nat.{pow-suc}
@@ -16,6 +16,11 @@ Fits [] [] = Unit {0}
 Fits [] (n ∷ ns) = ⊥
 Fits (w ∷ ws) [] = ⊥
 Fits (w ∷ ws) (n ∷ ns) = (n < 256 ^ w) × Fits ws ns
+
+-- numbers that fit more widths fit the first of these, as far as they go
+pub fits-first : (ws vs ns : List ℕ) → Fits (ws ++ vs) ns → Fits ws (take (length ws) ns)
+fits-first [] vs ns h = tt
+fits-first (w ∷ ws) vs (n ∷ ns) h = (h .0, fits-first ws vs ns (h .1))
 
 -- each is a byte
 abbrev pub AreBytes : List ℕ → Type 0
@@ -68,6 +73,12 @@ length-join (w ∷ ws) [] e = absurd (omega arith)
 length-join (w ∷ ws) (n ∷ ns) e =
     length-append (toBytes w n) (join ws ns) ∙ omega (arith, length-bytes w n, length-join ws ns (omega arith))
 
+-- a row of more numbers than widths is that of its first numbers
+pub join-first : (ws ns : List ℕ) → join ws (take (length ws) ns) ≡ join ws ns
+join-first [] ns = refl
+join-first (w ∷ ws) [] = refl
+join-first (w ∷ ws) (n ∷ ns) = ap (λ l. toBytes w n ++ l) (join-first ws ns)
+
 -- a split gives a number for every width
 pub length-split : (ws s : List ℕ) → length (split ws s) ≡ length ws
 length-split [] s = refl
@@ -85,6 +96,16 @@ split-join (w ∷ ws) (n ∷ ns) t h =
       from-to w n (h .0),
       split-join ws ns t (h .1),
     )
+
+-- bytes of some widths and bytes of others are split each by their own
+pub split-append : (ws vs a b : List ℕ) → length a ≡ sum ws → split (ws ++ vs) (a ++ b) ≡ split ws a ++ split vs b
+split-append [] vs [] b e = refl
+split-append [] vs (x ∷ a) b e = absurd (omega arith)
+split-append (w ∷ ws) vs a b e =
+    let l : length (take w a) ≡ w = length-take-le w a (omega arith) in
+    let p : a ++ b ≡ take w a ++ (drop w a ++ b) = ap (λ x. x ++ b) (sym (take-append-drop w a)) ∙ append-assoc (take w a) (drop w a) b in
+    rw (p, take-at (take w a) (drop w a ++ b) w l, drop-at (take w a) (drop w a ++ b) w l)
+    (ap (λ ns. fromBytes (take w a) ∷ ns) (split-append ws vs (drop w a) b (length-drop w a ∙ omega arith)))
 
 -- bytes that are read as a row of numbers are written back as they were
 pub join-split : (ws s : List ℕ) → AreBytes s → length s ≡ sum ws → join ws (split ws s) ≡ s

@@ -4,7 +4,6 @@ use mathlib.Core.Path.{_≡_, refl, ap, _∙_}
 use mathlib.Core.Bool.{Bool, true, false, _&&_, _||_, false≢true}
 use mathlib.Core.List.{List}
 use native.Mathlib.Omega.{arith}
-use lib.ListN.{length}
 use lib.Dec.{leb, eqb}
 use borrow.Author.Tests.{leb-true, le-leb}
 use Rattle.units.specs.Lists.{inRange, orZero, isZero}
@@ -17,17 +16,18 @@ use Rattle.orders.specs.declared.order.Kind.the-variants.{Displayed, NonDisplay
 use Rattle.orders.specs.declared.order.Order.{Order}
 use Rattle.orders.specs.Order.{sideNumber, kindNumber, minimumOf, hiddenOf, refreshOf, isDisplayed, isMinimumQuantity, isReserve, priceOf, sizeOf}
 use Rattle.orders.specs.Order.{minimumInRange, reserveInRange}
-use Rattle.record.specs.Record.{orderForm, numbersOf, orderOf, numbersSound}
+use Rattle.record.specs.Record.{newForm, newTells, numbersOf, orderOf, numbersSound, rowSound}
 use Rattle.record.proofs.Numbers.{Fits}
-use Rattle.record.proofs.Rows.{numbers-order, passed, all-passed}
+use Rattle.record.proofs.Rows.{numbers-order, passed, all-passed, all-told}
 
 -- a sound order: each of its numbers is in its range
 abbrev pub OrderSound : Order → Type 0
-OrderSound o = numbersSound (numbersOf o) ≡ true
+OrderSound o = rowSound newForm (numbersOf o) ≡ true
 
 -- the order of a sound row of numbers is sound
-pub row-sound : (ns : List ℕ) → numbersSound ns ≡ true → length ns ≡ 12 → OrderSound (orderOf ns)
-row-sound ns e l = ap numbersSound (numbers-order ns e l) ∙ e
+pub row-sound : (ns : List ℕ) → rowSound newForm ns ≡ true → OrderSound (orderOf ns)
+unfolding numbersSound newTells
+row-sound ns e = ap (rowSound newForm) (numbers-order ns e) ∙ e
 
 -- what a sound order has, and all that it takes
 pub record OrderFacts (o : Order) : Type 0 where
@@ -110,12 +110,13 @@ module _ (o : Order) where
   pub order-facts : OrderSound o → OrderFacts o
   unfolding numbersOf
   order-facts e =
-      let t = passed (numbersOf o) e .1 .1 in
+      let a = passed (numbersOf o) e in
+      let t = a .0 .1 in
       let n = range-true 1 4294967295 (o .number) (t .0) in
       let p = range-true 1 2000000000 (priceOf o) (t .1 .0) in
       let z = range-true 1 999999 (sizeOf o) (t .1 .1 .0) in
       let m = minimum-facts (o .kind) (sizeOf o) (t .1 .1 .1 .0) in
-      let r = reserve-facts (o .kind) (t .1 .1 .1 .1 .1 .1 .1 .1 .0) in
+      let r = reserve-facts (o .kind) (a .1 .1 .1 .1 .0) in
       record {
         number-least = n .0;
         number-most = n .1;
@@ -135,21 +136,23 @@ module _ (o : Order) where
   pub facts-order : OrderFacts o → OrderSound o
   unfolding numbersOf
   facts-order h =
-      all-passed (numbersOf o)
+      true-and
+      (all-passed (numbersOf o)
       (side-range (o .side))
-      (kind-range (o .kind))
       (true-range 1 4294967295 (o .number) (h .number-least) (h .number-most))
       (true-range 1 2000000000 (priceOf o) (h .price-least) (h .price-most))
       (true-range 1 999999 (sizeOf o) (h .size-least) (h .size-most))
       (facts-minimum (o .kind) (sizeOf o) (h .minimum-least) (h .minimum-most))
       (facts-mark (o .setter) (o .kind) (h .marked))
+      refl)
+      (all-told (numbersOf o)
+      (kind-range (o .kind))
       refl
       refl
-      refl
-      (facts-reserve (o .kind) record { most = h .hidden-most; refresh = h .refresh-least; refresh-most = h .refresh-most })
+      (facts-reserve (o .kind) record { most = h .hidden-most; refresh = h .refresh-least; refresh-most = h .refresh-most }))
 
   -- a sound order's numbers fit the record of an order
-  pub order-fits : OrderSound o → Fits (orderForm .widths) (numbersOf o)
+  pub order-fits : OrderSound o → Fits (newForm .layout .widths) (numbersOf o)
   unfolding numbersOf
   order-fits e =
       let h = order-facts e in

@@ -5,7 +5,7 @@ use mathlib.Core.List.{List, _++_, append-nil, append-assoc}
 use native.Mathlib.Omega.{arith}
 use native.Mathlib.Numerals.{add-one}
 use lib.ListN.{length, getD, take, drop, set, length-append, length-drop, take-append-drop}
-use lib.Seq.{paste, paste-suc, length-paste, drop-paste, take-length, take-append-seam, length-take-le, drop-length, drop-drop, getD-drop}
+use lib.Seq.{paste, paste-suc, length-paste, drop-paste, take-length, take-append-seam, length-take-le, drop-length, drop-append-add, drop-drop, getD-drop}
 use Rattle.record.specs.Codec.{replaced}
 
 module _ (d s : List ℕ) (at : ℕ) (h : at + length s ≤ length d) (x : List ℕ) (i : ℕ) (e : x ≡ paste d at s i) where
@@ -79,6 +79,22 @@ module _ (at : ℕ) (new b : List ℕ) (h : at + length new ≤ length b) where
         length-take-le at b (omega arith),
         length-drop (at + length new) b,
       )
+
+-- bytes put directly behind others that were put in are put in with them
+pub replaced-next : (at : ℕ) (a b t : List ℕ) → at + (length a + length b) ≤ length t
+    → replaced (at + length a) b (replaced at a t) ≡ replaced at (a ++ b) t
+replaced-next at a b t h =
+    let front = take at t in
+    let n : length (front ++ a) ≡ at + length a = length-append front a ∙ omega (arith, length-take-le at t (omega arith)) in
+    let m : at + length a + length b ≡ at + length (a ++ b) = omega (arith, length-append a b) in
+    let behind : drop (at + length a + length b) (replaced at a t) ≡ drop (at + length (a ++ b)) t =
+    ap₂ drop (ap (λ k. k + length b) (sym n)) (sym (append-assoc front a (drop (at + length a) t)))
+    ∙ drop-append-add (front ++ a) (drop (at + length a) t) (length b)
+    ∙ drop-drop (length b) (at + length a) t
+    ∙ ap (λ k. drop k t) m in
+    ap₂ (λ x y. x ++ (b ++ y)) (take-replaced at a t (omega arith)) behind
+    ∙ append-assoc front a (b ++ drop (at + length (a ++ b)) t)
+    ∙ ap (λ l. front ++ l) (sym (append-assoc a b (drop (at + length (a ++ b)) t)))
 
 -- bytes put in the place of as many, all of them, are what is there
 pub replaced-all : (new b : List ℕ) → length new ≡ length b → replaced 0 new b ≡ new

@@ -1,10 +1,10 @@
 -- Orders as rows of numbers, both ways.
-use Prim.Native.Nat.{ℕ, zero, suc, _+_, _%_}
+use Prim.Native.Nat.{ℕ, zero, suc, _+_, _%_, _≤_}
 use mathlib.Core.Path.{_≡_, refl, sym, ap, _∙_}
 use mathlib.Core.Bool.{Bool, true, false, _&&_, _||_, false≢true}
 use mathlib.Core.List.{List, [], _∷_}
 use native.Mathlib.Omega.{arith}
-use lib.ListN.{length, getD, drop, drop-of-length-le}
+use lib.ListN.{length, getD, take, drop, drop-of-length-le}
 use lib.Seq.{drop-cons}
 use lib.Dec.{eqb}
 use borrow.Author.Tests.{eqb-true}
@@ -19,7 +19,7 @@ use Rattle.orders.specs.declared.order.Kind.the-variants.{Displayed, NonDisplay
 use Rattle.orders.specs.declared.order.Order.{Order}
 use Rattle.orders.specs.Order.{sideNumber, sideOf, kindNumber, kindOf, minimumOf, hiddenOf, refreshOf}
 use Rattle.orders.specs.Order.{numberInRange, priceInRange, sharesInRange, minimumInRange, reserveInRange}
-use Rattle.record.specs.Record.{numbersOf, orderOf, numbersSound}
+use Rattle.record.specs.Record.{newForm, newTells, numbersOf, orderOf, numbersSound, rowSound}
 
 -- a side and a kind are read back from their numbers
 pub side-of : (s : Side) → sideOf (sideNumber s) ≡ s
@@ -47,9 +47,9 @@ pub order-numbers : (o : Order) → orderOf (numbersOf o) ≡ o
 unfolding orderOf numbersOf
 order-numbers o = rw (side-of (o .side), kind-of (o .kind), setter-of (o .setter))
 
--- the numbers of a row from place k on, written out
+-- the numbers of a row from place k on, written out; behind its end they are zero
 module _ (ns : List ℕ) where
-  abbrev cells : ℕ → ℕ → List ℕ
+  abbrev pub cells : ℕ → ℕ → List ℕ
   cells k zero = []
   cells k (suc n) = getD ns k 0 ∷ cells (suc k) n
 
@@ -57,29 +57,45 @@ module _ (ns : List ℕ) where
   cells-are k zero e = drop-of-length-le ns {i = k} (omega arith)
   cells-are k (suc n) e = drop-cons ns k 0 (omega arith) ∙ ap (λ l. getD ns k 0 ∷ l) (cells-are (suc k) n (omega arith))
 
--- the tests of a sound row of numbers, behind that of its first
+  cells-take : (k m n : ℕ) → m ≤ n → take m (cells k n) ≡ cells k m
+  cells-take k zero n h = refl
+  cells-take k (suc m) zero h = absurd (omega arith)
+  cells-take k (suc m) (suc n) h = ap (λ l. getD ns k 0 ∷ l) (cells-take (suc k) m n (omega arith))
+
+  -- of more numbers than the row has, the first are the row's
+  pub cells-row : (n : ℕ) → length ns ≤ n → take (length ns) (cells 0 n) ≡ ns
+  cells-row n h = cells-take 0 (length ns) n h ∙ sym (cells-are 0 (length ns) (omega arith))
+
+-- the tests of numbers that every form wants, behind that of the first
 abbrev pub tests : List ℕ → List Bool
 tests ns =
-    inRange 1 4 (getD ns 1 0) ∷
     numberInRange (getD ns 2 0) ∷
     priceInRange (getD ns 3 0) ∷
     sharesInRange (getD ns 4 0) ∷
     minimumInRange (getD ns 1 0) (getD ns 4 0) (getD ns 5 0) ∷
     (isZero (getD ns 6 0) || (eqb (getD ns 6 0) 1 && (eqb (getD ns 1 0) 1 || eqb (getD ns 1 0) 4))) ∷
-    isZero (getD ns 7 0) ∷
-    isZero (getD ns 8 0) ∷
-    isZero (getD ns 9 0) ∷
-    reserveInRange (getD ns 1 0) (getD ns 10 0) (getD ns 11 0) ∷ []
+    isZero (getD ns 9 0) ∷ []
+
+-- and of those that the new form tells, behind that of the kind
+abbrev pub newTests : List ℕ → List Bool
+newTests ns = isZero (getD ns 7 0) ∷ isZero (getD ns 8 0) ∷ reserveInRange (getD ns 1 0) (getD ns 10 0) (getD ns 11 0) ∷ []
 
 -- a sound row of numbers passes each test
-pub passed : (ns : List ℕ) → numbersSound ns ≡ true → Every (λ b. b ≡ true) (inRange 1 2 (getD ns 0 0) ∷ tests ns)
-unfolding numbersSound
-passed ns e = chain-true (inRange 1 2 (getD ns 0 0)) (tests ns) e
+pub passed : (ns : List ℕ) → rowSound newForm ns ≡ true
+    → Every (λ b. b ≡ true) (inRange 1 2 (getD ns 0 0) ∷ tests ns) × Every (λ b. b ≡ true) (inRange 1 4 (getD ns 1 0) ∷ newTests ns)
+unfolding numbersSound newTells
+passed ns e =
+    let a = and-true (numbersSound ns) (newTells ns) e in
+    (chain-true (inRange 1 2 (getD ns 0 0)) (tests ns) (a .0), chain-true (inRange 1 4 (getD ns 1 0)) (newTests ns) (a .1))
 
 -- a row of numbers that passes each test is sound
 pub all-passed : (ns : List ℕ) → inRange 1 2 (getD ns 0 0) ≡ true → Given (tests ns) (numbersSound ns ≡ true)
 unfolding numbersSound
 all-passed ns h = true-chain (inRange 1 2 (getD ns 0 0)) (tests ns) h
+
+pub all-told : (ns : List ℕ) → inRange 1 4 (getD ns 1 0) ≡ true → Given (newTests ns) (newTells ns ≡ true)
+unfolding newTells
+all-told ns h = true-chain (inRange 1 4 (getD ns 1 0)) (newTests ns) h
 
 -- the numbers of a side, a kind and a setter mark that were read are the numbers that they were read from
 number-side : (n : ℕ) → inRange 1 2 n ≡ true → sideNumber (sideOf n) ≡ n
@@ -120,15 +136,15 @@ number-setter n b e = go (eqb n 1) (isZero n) refl refl e
     go false true p q e = sym (eqb-true n 0 q)
     go false false p q e = absurd (false≢true e)
 
--- a sound row of numbers is that of the order that is read from it
-pub numbers-order : (ns : List ℕ) → numbersSound ns ≡ true → length ns ≡ 12 → numbersOf (orderOf ns) ≡ ns
+-- the numbers of the order that is read from a sound row are the row's
+pub numbers-order : (ns : List ℕ) → rowSound newForm ns ≡ true → numbersOf (orderOf ns) ≡ cells ns 0 12
 unfolding numbersOf orderOf
-numbers-order ns e l =
-    let t = passed ns e in
-    let m = t .1 .1 .1 .1 .1 in
-    let z = m .1 .1 in
-    let k = number-kind (getD ns 1 0) (getD ns 5 0) (getD ns 4 0) (getD ns 10 0) (getD ns 11 0) (t .1 .0) (m .0) (z .1 .1 .1 .0) in
-    let c = rw (eqb-true (getD ns 7 0) 0 (z .0), eqb-true (getD ns 8 0) 0 (z .1 .0), eqb-true (getD ns 9 0) 0 (z .1 .1 .0)) at (cells-are ns 0 12 l) in
+numbers-order ns e =
+    let p = passed ns e in
+    let t = p .0 in
+    let m = t .1 .1 .1 .1 in
+    let z = p .1 in
+    let k = number-kind (getD ns 1 0) (getD ns 5 0) (getD ns 4 0) (getD ns 10 0) (getD ns 11 0) (z .0) (m .0) (z .1 .1 .1 .0) in
     rw (
       number-side (getD ns 0 0) (t .0),
       k .kind,
@@ -136,5 +152,7 @@ numbers-order ns e l =
       k .hidden,
       k .refresh,
       number-setter (getD ns 6 0) (eqb (getD ns 1 0) 1 || eqb (getD ns 1 0) 4) (m .1 .0),
+      eqb-true (getD ns 7 0) 0 (z .1 .0),
+      eqb-true (getD ns 8 0) 0 (z .1 .1 .0),
+      eqb-true (getD ns 9 0) 0 (m .1 .1 .0),
     )
-    (sym c)

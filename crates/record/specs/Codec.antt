@@ -50,3 +50,8 @@ decode f s = split (f .widths) (drop (length (f .mark)) s)
 -- a record begins with the mark of its form
 abbrev pub hasMark : Form → List ℕ → Bool
 hasMark f s = sameNumbers (take (length (f .mark)) s) (f .mark)
+
+-- the first n records of a buffer
+abbrev pub recordsOf : Form → ℕ → List ℕ → List (List ℕ)
+recordsOf f zero s = []
+recordsOf f (suc n) s = take (formBytes f) s ∷ recordsOf f n (drop (formBytes f) s)

@@ -1,4 +1,4 @@
-// The record of an order, 40 bytes, both ways, and what makes one sound.
+// The record of an order in the new form, 40 bytes, both ways, and what makes one sound.
 use crate::bytes;
 use orders::order::Kind;
 use orders::order::Order;
@@ -11,7 +11,7 @@ ghost use lib.ListN.{length};
 ghost use Rattle.units.specs.Lists.{orZero};
 ghost use Rattle.orders.specs.Order.{interest, settled, isResting};
 ghost use Rattle.record.specs.Codec.{decode, hasMark};
-ghost use Rattle.record.specs.Record.{orderForm, numbersOf, encodeOrder, decodeOrder, recordSound};
+ghost use Rattle.record.specs.Record.{newForm, numbersOf, encodeOrder, decodeOrder, recordSound};
 ghost use Rattle.record.specs.Names.{namedNumbers};
 
 // The numbers of a record that say its order.
@@ -30,7 +30,7 @@ pub struct Numbers {
 // They are read each at its own place.
 pub fn numbers_of(rec: &[u8]) -> Numbers
     requires { ⌜ length (now rec) ≡ 40 ⌝ }
-    ensures { λ r. ⌜ r ≡ namedNumbers (decode orderForm (now (rec .entry))) ⌝ }
+    ensures { λ r. ⌜ r ≡ namedNumbers (decode (newForm .layout) (now (rec .entry))) ⌝ }
 {
     let side = rec[2];
     let kind = rec[3];
@@ -51,7 +51,7 @@ pub fn numbers_of(rec: &[u8]) -> Numbers
 // The order that a record says.
 pub fn read(rec: &[u8]) -> Order
     requires { ⌜ length (now rec) ≡ 40 ⌝ }
-    ensures { λ r. ⌜ r ≡ decodeOrder orderForm (now (rec .entry)) ⌝ }
+    ensures { λ r. ⌜ r ≡ decodeOrder newForm (now (rec .entry)) ⌝ }
 {
     let n = numbers_of(rec);
     Order {
@@ -80,7 +80,7 @@ const MARK: [u8; 2] = *b"OC";
 // Whether the record begins with the mark of an order.
 fn has_mark(rec: &[u8]) -> bool
     requires { ⌜ length (now rec) ≡ 40 ⌝ }
-    ensures { λ r. ⌜ r ≡ hasMark orderForm (now (rec .entry)) ⌝ }
+    ensures { λ r. ⌜ r ≡ hasMark (newForm .layout) (now (rec .entry)) ⌝ }
 {
     bytes::same(&rec[..2], &MARK)
 }
@@ -90,7 +90,7 @@ fn has_mark(rec: &[u8]) -> bool
 // kind are among the first four, and the setter mark is the number of four bytes of which the others are zero.
 pub fn is_sound(rec: &[u8]) -> bool
     requires { ⌜ length (now rec) ≡ 40 ⌝ }
-    ensures { λ r. ⌜ r ≡ recordSound orderForm (now (rec .entry)) ⌝ }
+    ensures { λ r. ⌜ r ≡ recordSound newForm (now (rec .entry)) ⌝ }
 {
     let head = bytes::read_u32(rec, 0);
     let kind = head / 16_777_216;
@@ -118,7 +118,7 @@ fn mark(setter: bool) -> u8
 
 // The record of an order.
 pub fn bytes_of(order: Order) -> [u8; 40]
-    ensures { λ r. ⌜ r ≡ encodeOrder orderForm order ⌝ }
+    ensures { λ r. ⌜ r ≡ encodeOrder newForm order ⌝ }
 {
     let side = order.side;
     let kind = order.kind;

@@ -15,7 +15,7 @@ use Rattle.orders.specs.declared.order.Order.{Order}
 use Rattle.orders.specs.declared.order.Taker.{Taker}
 use Rattle.orders.specs.Order.{minimumOf, interestBy, interestOf, allShares, numberInRange, priceInRange, sharesInRange, minimumInRange, reserveInRange}
 use Rattle.orders.specs.Trading.{isTradable, asTaker}
-use Rattle.book.specs.Sound.{ordersOf, capacityOf}
+use Rattle.book.specs.Sound.{sound, ordersOf, capacityOf}
 use Rattle.book.proofs.Refusing.{refusalsOf, not-given}
 use Rattle.entry.specs.declared.admission.AddRequest.{AddRequest}
 use Rattle.entry.specs.Add.{requestInRange, requested, couldTrade, addRefusals, addCall}
@@ -84,5 +84,5 @@ module _ (q : TakeRequest) (s x : List ℕ) (e : takeCall q s x .taken .refusal 
     where
       go : (b : Bool) → requestInRange r ≡ b → ⊥
       go true h =
-          not-given 5 (λ z. omega arith) (refusalsOf (addRefusals r (capacityOf book) (ordersOf book)) book) (rw (trades-not (some-shares h))) f
+          not-given 5 (λ z. omega arith) (refusalsOf (addRefusals r (capacityOf book) (ordersOf book)) (sound book)) (rw (trades-not (some-shares h))) f
       go false h = let z : _≡_ {A = ℕ} 1 5 = rw h at f in omega arith

@@ -11,7 +11,7 @@ use Rattle.orders.specs.declared.order.Kind.the-variants.{Displayed, Reserve}
 use Rattle.orders.specs.declared.order.Order.{Order}
 use Rattle.orders.specs.Order.{sizeOf, interest, withInterest, settled}
 use Rattle.record.specs.Codec.{encode, decode}
-use Rattle.record.specs.Record.{numbersOf, orderOf, numbersSound}
+use Rattle.record.specs.Record.{numbersOf, orderOf, numbersSound, newTells}
 use Rattle.book.specs.Sound.{bookOf}
 use Rattle.settlement.specs.Moves.{behindFirstGap, movesOf, displaced}
 use Rattle.settlement.specs.Losing.{RecordAt, Records, leftAt, leftIn, closedUp}
@@ -136,23 +136,23 @@ losing-worked = refl
 
 -- from byte 40 on lies a sound record; from byte 80 on none, nor from byte 39
 record-there : RecordAt two 40
-unfolding two order bookOf encode decode numbersOf numbersSound
+unfolding two order bookOf encode decode numbersOf numbersSound newTells
 record-there = (omega arith, refl)
 
 no-record : (RecordAt two 80 → ⊥) × (RecordAt two 39 → ⊥) × (RecordAt (take 79 two) 40 → ⊥)
-unfolding two order bookOf encode decode numbersOf numbersSound
+unfolding two order bookOf encode decode numbersOf numbersSound newTells
 no-record = ((λ h. false≢true (h .1)), (λ h. false≢true (h .1)), λ h. omega (arith, h .0))
 
 -- the bytes begin with two sound records, and not with three; each has a loss of either visibility
 records-there : Records two 2 (0 ∷ 5 ∷ []) (0 ∷ 5 ∷ [])
-unfolding two order bookOf encode decode numbersOf numbersSound
+unfolding two order bookOf encode decode numbersOf numbersSound newTells
 records-there = record { room = omega arith; each = refl; shown-each = omega arith; hidden-each = omega arith }
 
 no-records : (Records two 3 (0 ∷ 5 ∷ 0 ∷ []) (0 ∷ 5 ∷ 0 ∷ []) → ⊥)
     × (Records (take 79 two) 2 (0 ∷ 5 ∷ []) (0 ∷ 5 ∷ []) → ⊥)
     × (Records two 2 (0 ∷ []) (0 ∷ 5 ∷ []) → ⊥)
     × (Records two 2 (0 ∷ 5 ∷ []) (0 ∷ []) → ⊥)
-unfolding two order bookOf encode decode numbersOf numbersSound
+unfolding two order bookOf encode decode numbersOf numbersSound newTells
 no-records = (
   (λ h. false≢true (h .each)),
   (λ h. omega (arith, h .room)),

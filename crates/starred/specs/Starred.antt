@@ -14,7 +14,7 @@ use Rattle.orders.specs.declared.order.Order.{Order}
 use Rattle.record.specs.declared.execution.Execution.{Execution}
 use Rattle.record.specs.Codec.{encode, decode}
 use Rattle.orders.specs.Order.{minimumOf, sizeOf, withInterest, settled}
-use Rattle.record.specs.Record.{numbersOf, orderOf, numbersSound}
+use Rattle.record.specs.Record.{numbersOf, orderOf, numbersSound, newTells}
 use Rattle.record.specs.Execution.{executionBytes, encodeExecution}
 use Rattle.book.specs.Sound.{recordBytes, sound, ordersOf, bookOf}
 use Rattle.book.specs.Refusal.{Changed}
@@ -150,5 +150,5 @@ starred =
     case (M 300 300 ∷ H 100 ∷ []) (take 1 150 (at 3 2 100 ∷ []) 50 (rest 1 300 300 ∷ []) ∷ []) ∷ []
 
 starred-pass : all passes starred ≡ true
-unfolding starred case take rest at passes takePasses summary buffer empty made request sell ten takeCall written outcomeOf outcome lossesOf executionsOf allocations allocationsOver allocationsAt allocationAt priceLevels partOf setterSharing besideSetter lotSharing round goesRound addCall added setsPrice requested sound ordersOf bookOf encode decode numbersOf orderOf numbersSound withInterest settled
+unfolding starred case take rest at passes takePasses summary buffer empty made request sell ten takeCall written outcomeOf outcome lossesOf executionsOf allocations allocationsOver allocationsAt allocationAt priceLevels partOf setterSharing besideSetter lotSharing round goesRound addCall added setsPrice requested sound ordersOf bookOf encode decode numbersOf orderOf numbersSound newTells withInterest settled
 starred-pass = refl

@@ -12,7 +12,7 @@ use Rattle.book.proofs.records.numbers_at.Tie as tie
 returns : tie.Need-returns
 returns c =
     let a = c .before .before .before .args in
-    c .numbers-of .ensures ∙ ap (λ n. namedNumbers (decode form (take n (drop (a .at) (a .book .now))))) (add-sub-cancel-left (a .at) 40)
+    c .numbers-of .ensures ∙ ap (λ n. namedNumbers (decode (form .layout) (take n (drop (a .at) (a .book .now))))) (add-sub-cancel-left (a .at) 40)
 
 pub numbers-at-spec : {M : Type 1} → statement M
 numbers-at-spec =

@@ -34,7 +34,7 @@ loop-again c =
     let l = d .before .before in
     let s = l .before .before in
     let a = s .args in
-    let ns = decode form (take 40 (drop (l .loop .at) (a .book .now))) in
+    let ns = decode (form .layout) (take 40 (drop (l .loop .at) (a .book .now))) in
     let e = d .numbers-at .ensures in
     rw (c .before .could-trade .ensures ns e (s .pre .1), c .beats .ensures ns e, e, later (a .new) ns)
     (compared-more (a .book .now) (a .n) (a .new) (l .loop .inv) (d .before .loop-test .taken) (orderOf ns) refl)

@@ -25,18 +25,18 @@ returns : tie.Need-returns Inv-loop μ-loop
 returns c =
     let i = c .before .before in
     let l = i .before in
-    omega (arith, count-stop (l .before .args .book .now) (l .loop .at) _ (i .loop-test .taken) (c .if1 .taken))
+    omega (arith, count-stop form (l .before .args .book .now) (l .loop .at) _ (i .loop-test .taken) (omega arith) (c .if1 .taken))
 
 loop-again : tie.Need-loop-again Inv-loop μ-loop
 loop-again c =
     let i = c .before .before in
     let l = i .before in
-    omega (arith, count-more (l .before .args .book .now) (l .loop .at) _ (i .loop-test .taken) (c .if1 .left))
+    omega (arith, count-more form (l .before .args .book .now) (l .loop .at) _ (i .loop-test .taken) (omega arith) (c .if1 .left))
 
 returns-2 : tie.Need-returns-2 Inv-loop μ-loop
 returns-2 c =
     let l = c .before in
-    omega (arith, count-done (l .before .args .book .now) (l .loop .at) _ (c .loop-test .left))
+    omega (arith, count-done form (l .before .args .book .now) (l .loop .at) _ (c .loop-test .left))
 
 pub count-occupied-spec : {M : Type 1} → statement M
 count-occupied-spec =

@@ -26,12 +26,12 @@ loop-again c =
     let l = i .before in
     let s = l .before .before .args .book .now in
     let e = rw add-sub-cancel-left at (c .is-sound .ensures) in
-    (search needs, rw e (all-more s (l .loop .at) _ (i .loop-test .taken) (recordSound form) (l .loop .sound)) ∙ l .loop .inv .1)
+    (search needs, rw e (all-more form s (l .loop .at) _ (i .loop-test .taken) (recordSound form) (l .loop .sound)) ∙ l .loop .inv .1)
 
 returns : tie.Need-returns Inv-loop μ-loop
 returns c =
     let l = c .before in
-    sym (all-done (l .before .before .args .book .now) (l .loop .at) _ (c .loop-test .left) (recordSound form) (l .loop .sound)) ∙ l .loop .inv .1
+    sym (all-done form (l .before .before .args .book .now) (l .loop .at) _ (c .loop-test .left) (recordSound form) (l .loop .sound)) ∙ l .loop .inv .1
 
 pub records-sound-spec : {M : Type 1} → statement M
 records-sound-spec =

@@ -1,6 +1,6 @@
 -- `record::order_record::numbers_of` meets its contract: each number is that of its own bytes.
 use borrow.Author.Needs.{needs}
-use Rattle.record.specs.Record.{orderForm}
+use Rattle.record.specs.Record.{newForm}
 use Rattle.record.proofs.Reading.{from-one, decode-at}
 use Rattle.record.proofs.order_record.numbers_of.Statement.{statement}
 use Rattle.record.proofs.order_record.numbers_of.Tie as tie
@@ -26,7 +26,7 @@ returns c =
       n .read-u32 .ensures,
       k .wide2 .ensures .0,
       d .wide .ensures .0,
-      decode-at orderForm s,
+      decode-at (newForm .layout) s,
       from-one 2 s,
       from-one 3 s,
       from-one 20 s,

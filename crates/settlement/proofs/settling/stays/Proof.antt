@@ -2,12 +2,9 @@
 use mathlib.Core.Path.{sym, ap, _∙_}
 use lib.ListN.{take, drop}
 use borrow.Author.Needs.{needs}
-use Rattle.units.proofs.Tests.{and-true}
-use Rattle.record.specs.Codec.{decode, hasMark}
-use Rattle.record.specs.Record.{decodeOrder, numbersSound}
+use Rattle.record.specs.Record.{decodeOrder}
 use Rattle.record.specs.Names.{namedNumbers}
-use Rattle.record.proofs.Forms.{length-decode}
-use Rattle.record.proofs.Rows.{numbers-order}
+use Rattle.record.proofs.Records.{new-numbers}
 use Rattle.book.specs.Sound.{form}
 use Rattle.settlement.proofs.Losing.{rests-same}
 use Rattle.settlement.proofs.settling.stays.Statement.{statement}
@@ -20,8 +17,7 @@ returns c =
     let r = take 40 (drop (s .args .at) (s .args .book .now)) in
     c .rests-after .ensures (decodeOrder form r)
     (o .numbers-at .ensures
-    ∙ ap namedNumbers
-    (sym (numbers-order (decode form r) (and-true (hasMark form r) (numbersSound (decode form r)) (s .pre .1) .1) (length-decode form r))))
+    ∙ ap namedNumbers (new-numbers r (s .pre .1)))
 
 returns-2 : tie.Need-returns-2
 returns-2 c =
