@@ -1,5 +1,6 @@
 /* Makes calls of the library as it is told, for .ci/documents. A line is 'CALL BOOK EXECUTIONS LADDER NUMBER..', the buffers in hex with an x
- * in front; the answer is a line too: the numbers that the call returned, then the buffers as it left them. */
+ * in front; the target of a conversion stands for the executions. The answer is a line too: the numbers that the call returned, then the
+ * buffers as it left them. */
 #include <ruhvasto.h>
 #include <stdio.h>
 #include <stdlib.h>
@@ -62,6 +63,10 @@ int main(void)
         } else if (strcmp(call, "take_ladder") == 0) {
             const ruhvasto_taken t = ruhvasto_take_ladder(book, size, executions, room, ladder, rows, take);
             printf("%u %u %u", t.refusal, t.count, t.left);
+        } else if (strcmp(call, "to_new") == 0) {
+            printf("%u", ruhvasto_to_new(book, size, executions, room));
+        } else if (strcmp(call, "to_old") == 0) {
+            printf("%u", ruhvasto_to_old(book, size, executions, room));
         } else {
             return 2;
         }

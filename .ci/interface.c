@@ -53,6 +53,7 @@ AT(ruhvasto_row, displayed, 8);
 AT(ruhvasto_row, other, 12);
 AT(ruhvasto_row, orders, 16);
 _Static_assert(RUHVASTO_BOOK_BYTES == RUHVASTO_BOOK_ORDERS * RUHVASTO_RECORD_BYTES, "the largest book");
+_Static_assert(RUHVASTO_OLD_BOOK_BYTES == RUHVASTO_BOOK_ORDERS * RUHVASTO_OLD_RECORD_BYTES, "the largest old book");
 _Static_assert(RUHVASTO_EXECUTIONS_BYTES == 2 * RUHVASTO_BOOK_ORDERS * RUHVASTO_EXECUTION_BYTES, "the most executions");
 _Static_assert(RUHVASTO_LADDER_BYTES == RUHVASTO_LADDER_ROWS * RUHVASTO_ROW_BYTES, "the bytes of a ladder");
 _Static_assert(RUHVASTO_LADDER_ROWS == RUHVASTO_BOOK_ORDERS, "the most rows");
@@ -245,8 +246,8 @@ static void refusals(void)
 static void names(void)
 {
     static const char *const words[] = { "accepted", "out of range", "unsound book", "unknown number", "stale number", "could trade",
-                                         "book full", "too many shares", "small buffer", "ladder length", "other ladder",
-                                         "unknown refusal" };
+                                         "book full", "too many shares", "small buffer", "ladder length", "other ladder", "no old form",
+                                         "unfit target", "unknown refusal" };
     for (uint32_t i = 0; i < sizeof words / sizeof *words; i++)
         EXPECT(strcmp(ruhvasto_refusal_name(i), words[i]) == 0);
     EXPECT(strcmp(ruhvasto_refusal_name(UINT32_MAX), "unknown refusal") == 0);
@@ -713,7 +714,7 @@ static void reserve_records(void)
     EXPECT(ruhvasto_check(book, KEPT).refusal == RUHVASTO_UNSOUND_BOOK);
 }
 
-/* Books as they were up to version 5, with records of 32 bytes and another mark. */
+/* No call but the conversions takes a book as it was up to version 5, with records of 32 bytes and another mark. */
 static void older_records(void)
 {
     clear();
@@ -896,6 +897,215 @@ static void most_executions(void)
     }
 }
 
+/* OLD BOOKS. What is in the book stands in the old book too, in the old form; and a target, of either form, has a byte in front and one
+ * behind it. All begin at odd addresses, and have room for a record too many. */
+static uint8_t old_memory[1 + RUHVASTO_OLD_BOOK_BYTES + RUHVASTO_OLD_RECORD_BYTES], old_before[sizeof old_memory];
+static uint8_t target_memory[1 + RUHVASTO_BOOK_BYTES + RUHVASTO_RECORD_BYTES + 1];
+static uint8_t *const old = old_memory + 1, *const target = target_memory + 1;
+
+static const ruhvasto_add_request old_orders[] = {
+    { .side = RUHVASTO_SELL, .kind = RUHVASTO_DISPLAYED, .number = 0x01020304, .price = 0x04050607, .size = 0x070809 },
+    { .side = RUHVASTO_BUY, .kind = RUHVASTO_NON_DISPLAYED, .number = 0x01020305, .price = 1, .size = RUHVASTO_SIZE_MOST },
+    { .side = RUHVASTO_SELL, .kind = RUHVASTO_MINIMUM_QUANTITY, .number = UINT32_MAX, .price = RUHVASTO_PRICE_MOST, .size = 0x0a0b0c,
+      .minimum = 0x090a0b },
+};
+enum { OLD_ORDERS = sizeof old_orders / sizeof *old_orders };
+
+/* The orders of the book in the old form, by what the header says of it. */
+static void make_old(void)
+{
+    memset(old_memory, 0, sizeof old_memory);
+    for (size_t i = 0; i < ruhvasto_check(book, RUHVASTO_BOOK_BYTES).orders; i++) {
+        memcpy(old + i * RUHVASTO_OLD_RECORD_BYTES, book + i * RUHVASTO_RECORD_BYTES, RUHVASTO_OLD_RECORD_BYTES);
+        old[i * RUHVASTO_OLD_RECORD_BYTES + 1] = 0x42;
+    }
+}
+
+/* The book and the old book with the first of these orders. */
+static void enter_old_orders(size_t count)
+{
+    clear();
+    for (size_t i = 0; i < count; i++)
+        EXPECT(put_in(RUHVASTO_BOOK_BYTES, old_orders[i]) == RUHVASTO_ACCEPTED);
+    make_old();
+}
+
+/* Whether the target has the orders of the book, in records of this width with this mark, and zeros up to this length; and nothing beyond. */
+static int is_turned(size_t width, uint8_t mark, size_t length)
+{
+    const size_t orders = ruhvasto_check(book, RUHVASTO_BOOK_BYTES).orders;
+    int holds = target_memory[0] == 0xee && target[length] == 0xee;
+    for (size_t i = 0; i < orders; i++) {
+        const uint8_t *record = target + i * width;
+        holds = holds && record[0] == 0x4f && record[1] == mark && memcmp(record + 2, book + i * RUHVASTO_RECORD_BYTES + 2, 30) == 0;
+        for (size_t at = 32; at < width; at++)
+            holds = holds && record[at] == 0;
+    }
+    for (size_t at = orders * width; at < length; at++)
+        holds = holds && target[at] == 0;
+    return holds;
+}
+
+static int is_untouched(void)
+{
+    size_t same = 0;
+    for (size_t i = 0; i < sizeof target_memory; i++)
+        same += target_memory[i] == 0xee;
+    return same == sizeof target_memory;
+}
+
+/* The two calls, into a target of EE hex. Their refusal number, if the target is then what the header says, or refused as it was, and the
+ * source as it was; else a number that no refusal has. */
+static uint32_t to_new(size_t old_len, size_t target_len)
+{
+    memset(target_memory, 0xee, sizeof target_memory);
+    memcpy(old_before, old_memory, sizeof old_memory);
+    const uint32_t refusal = ruhvasto_to_new(old, old_len, target, target_len);
+    const int holds = refusal == RUHVASTO_ACCEPTED ? is_turned(RUHVASTO_RECORD_BYTES, 0x43, target_len) : is_untouched();
+    return holds && memcmp(old_before, old_memory, sizeof old_memory) == 0 ? refusal : UINT32_MAX;
+}
+
+static uint32_t to_old(size_t book_len, size_t target_len)
+{
+    memset(target_memory, 0xee, sizeof target_memory);
+    remember();
+    const uint32_t refusal = ruhvasto_to_old(book, book_len, target, target_len);
+    const int holds = refusal == RUHVASTO_ACCEPTED ? is_turned(RUHVASTO_OLD_RECORD_BYTES, 0x42, target_len) : is_untouched();
+    return holds && unchanged() ? refusal : UINT32_MAX;
+}
+
+/* A record of each kind, byte by byte, there and back. */
+static void turned(void)
+{
+    static const uint8_t records[OLD_ORDERS * RUHVASTO_OLD_RECORD_BYTES] = {
+        0x4f, 0x42, 2, 1, 4, 3, 2, 1, 7, 6, 5, 4, 9, 8, 7, 0, 0, 0, 0, 0, 1,
+        [32] = 0x4f, 0x42, 1, 2, 5, 3, 2, 1, 1, 0, 0, 0, 0x3f, 0x42, 0x0f,
+        [64] = 0x4f, 0x42, 2, 3, 255, 255, 255, 255, 0x00, 0x94, 0x35, 0x77, 12, 11, 10, 0, 11, 10, 9 };
+    const size_t new_len = OLD_ORDERS * RUHVASTO_RECORD_BYTES, old_len = OLD_ORDERS * RUHVASTO_OLD_RECORD_BYTES;
+    enter_old_orders(OLD_ORDERS);
+    EXPECT(memcmp(old, records, sizeof records) == 0);
+    EXPECT(to_old(new_len, old_len) == RUHVASTO_ACCEPTED && memcmp(target, records, sizeof records) == 0);
+    EXPECT(to_new(old_len, new_len) == RUHVASTO_ACCEPTED && memcmp(target, book, new_len) == 0);
+    EXPECT(ruhvasto_check(target, new_len).orders == OLD_ORDERS && ruhvasto_order_in(target, 0).setter == 1);
+    /* By way of a target of another capacity, back to the same bytes. */
+    EXPECT(to_new(5 * RUHVASTO_OLD_RECORD_BYTES, RUHVASTO_BOOK_BYTES) == RUHVASTO_ACCEPTED);
+    memcpy(book, target, RUHVASTO_BOOK_BYTES);
+    EXPECT(to_old(RUHVASTO_BOOK_BYTES, 5 * RUHVASTO_OLD_RECORD_BYTES) == RUHVASTO_ACCEPTED);
+    EXPECT(memcmp(target, old, 5 * RUHVASTO_OLD_RECORD_BYTES) == 0);
+    EXPECT(to_old(9 * RUHVASTO_RECORD_BYTES, RUHVASTO_OLD_BOOK_BYTES) == RUHVASTO_ACCEPTED);
+    memcpy(old, target, RUHVASTO_OLD_BOOK_BYTES);
+    EXPECT(to_new(RUHVASTO_OLD_BOOK_BYTES, 9 * RUHVASTO_RECORD_BYTES) == RUHVASTO_ACCEPTED);
+    EXPECT(memcmp(target, book, 9 * RUHVASTO_RECORD_BYTES) == 0);
+    /* Each form is unsound as the other. */
+    memcpy(old, book, old_len);
+    EXPECT(to_new(old_len, RUHVASTO_BOOK_BYTES) == RUHVASTO_UNSOUND_BOOK);
+    make_old();
+    memcpy(book, old, new_len);
+    EXPECT(to_old(new_len, RUHVASTO_OLD_BOOK_BYTES) == RUHVASTO_UNSOUND_BOOK);
+}
+
+/* Targets of every small length, and of both forms' most records and one more; and sources of lengths that no book has. */
+static void target_lengths(void)
+{
+    for (size_t orders = 0; orders <= OLD_ORDERS; orders++) {
+        const size_t least = orders * RUHVASTO_RECORD_BYTES, old_least = orders * RUHVASTO_OLD_RECORD_BYTES;
+        size_t agree = 0, agree_old = 0;
+        enter_old_orders(orders);
+        for (size_t length = 0; length <= 200; length++) {
+            const int fits = length >= least && length % RUHVASTO_RECORD_BYTES == 0;
+            const int fits_old = length >= old_least && length % RUHVASTO_OLD_RECORD_BYTES == 0;
+            agree += to_new(old_least, length) == (fits ? RUHVASTO_ACCEPTED : RUHVASTO_UNFIT_TARGET);
+            agree_old += to_old(least, length) == (fits_old ? RUHVASTO_ACCEPTED : RUHVASTO_UNFIT_TARGET);
+        }
+        EXPECT(agree == 201 && agree_old == 201);
+        EXPECT(to_new(old_least, RUHVASTO_BOOK_BYTES) == RUHVASTO_ACCEPTED);
+        EXPECT(to_new(old_least, RUHVASTO_BOOK_BYTES + RUHVASTO_RECORD_BYTES) == RUHVASTO_UNFIT_TARGET);
+        EXPECT(to_old(least, RUHVASTO_OLD_BOOK_BYTES) == RUHVASTO_ACCEPTED);
+        EXPECT(to_old(least, RUHVASTO_OLD_BOOK_BYTES + RUHVASTO_OLD_RECORD_BYTES) == RUHVASTO_UNFIT_TARGET);
+        EXPECT(to_new(RUHVASTO_OLD_BOOK_BYTES, least) == RUHVASTO_ACCEPTED && to_old(RUHVASTO_BOOK_BYTES, old_least) == RUHVASTO_ACCEPTED);
+        EXPECT(to_new(RUHVASTO_OLD_BOOK_BYTES + RUHVASTO_OLD_RECORD_BYTES, least) == RUHVASTO_UNSOUND_BOOK);
+        EXPECT(to_new(old_least + 1, least) == RUHVASTO_UNSOUND_BOOK && to_new(old_least + 31, least) == RUHVASTO_UNSOUND_BOOK);
+        EXPECT(to_old(RUHVASTO_BOOK_BYTES + RUHVASTO_RECORD_BYTES, old_least) == RUHVASTO_UNSOUND_BOOK);
+        EXPECT(to_old(least + 1, old_least) == RUHVASTO_UNSOUND_BOOK && to_old(least + 39, old_least) == RUHVASTO_UNSOUND_BOOK);
+    }
+    fill();
+    make_old();
+    EXPECT(to_new(RUHVASTO_OLD_BOOK_BYTES, RUHVASTO_BOOK_BYTES) == RUHVASTO_ACCEPTED && memcmp(target, book, RUHVASTO_BOOK_BYTES) == 0);
+    EXPECT(to_old(RUHVASTO_BOOK_BYTES, RUHVASTO_OLD_BOOK_BYTES) == RUHVASTO_ACCEPTED && memcmp(target, old, RUHVASTO_OLD_BOOK_BYTES) == 0);
+    EXPECT(to_new(RUHVASTO_OLD_BOOK_BYTES, RUHVASTO_BOOK_BYTES - RUHVASTO_RECORD_BYTES) == RUHVASTO_UNFIT_TARGET);
+    EXPECT(to_old(RUHVASTO_BOOK_BYTES, RUHVASTO_OLD_BOOK_BYTES - RUHVASTO_OLD_RECORD_BYTES) == RUHVASTO_UNFIT_TARGET);
+    EXPECT(to_new(RUHVASTO_OLD_BOOK_BYTES, RUHVASTO_BOOK_BYTES + RUHVASTO_RECORD_BYTES) == RUHVASTO_UNFIT_TARGET);
+    EXPECT(to_old(RUHVASTO_BOOK_BYTES, RUHVASTO_OLD_BOOK_BYTES + RUHVASTO_OLD_RECORD_BYTES) == RUHVASTO_UNFIT_TARGET);
+}
+
+/* A record of the old form, each byte with each value: sound exactly if it has the mark, is of the first three kinds, and would be sound
+ * with the new mark and eight zeros more. And what makes an old book unsound that has sound records. */
+static void old_soundness(void)
+{
+    const size_t old_len = OLD_ORDERS * RUHVASTO_OLD_RECORD_BYTES;
+    for (size_t i = 0; i < OLD_ORDERS; i++) {
+        clear();
+        EXPECT(put_in(RUHVASTO_RECORD_BYTES, old_orders[i]) == RUHVASTO_ACCEPTED);
+        for (size_t at = 0; at < RUHVASTO_OLD_RECORD_BYTES; at++) {
+            const uint8_t right = book[at];
+            uint32_t agree = 0;
+            for (uint32_t value = 0; value < 256; value++) {
+                uint8_t record[RUHVASTO_OLD_RECORD_BYTES], written[RUHVASTO_RECORD_BYTES];
+                memcpy(record, book, sizeof record);
+                record[1] = 0x42;
+                record[at] = (uint8_t)value;
+                book[at] = at == 1 ? 0x43 : (uint8_t)value;
+                const int sound = record[0] == 0x4f && record[1] == 0x42 && record[3] <= RUHVASTO_MINIMUM_QUANTITY
+                    && ruhvasto_check(book, RUHVASTO_RECORD_BYTES).refusal == RUHVASTO_ACCEPTED;
+                agree += ruhvasto_to_new(record, sizeof record, written, sizeof written)
+                    == (sound ? RUHVASTO_ACCEPTED : RUHVASTO_UNSOUND_BOOK);
+                book[at] = right;
+            }
+            EXPECT(agree == 256);
+        }
+    }
+    enter_old_orders(OLD_ORDERS);
+    put(old + RUHVASTO_OLD_RECORD_BYTES + 4, 0x01020304, 4);
+    EXPECT(to_new(old_len, RUHVASTO_BOOK_BYTES) == RUHVASTO_UNSOUND_BOOK); /* two orders of one number */
+    make_old();
+    uint32_t accepted = 0;
+    for (size_t at = old_len; at < RUHVASTO_OLD_BOOK_BYTES; at++) {
+        old[at] = 1;
+        accepted += to_new(RUHVASTO_OLD_BOOK_BYTES, RUHVASTO_BOOK_BYTES) != RUHVASTO_UNSOUND_BOOK;
+        old[at] = 0;
+    }
+    EXPECT(accepted == 0); /* a byte behind the orders that isn't zero */
+    memcpy(old + RUHVASTO_OLD_RECORD_BYTES, old, RUHVASTO_OLD_RECORD_BYTES);
+    put(old + RUHVASTO_OLD_RECORD_BYTES + 4, 0x01020305, 4);
+    EXPECT(to_new(old_len, RUHVASTO_BOOK_BYTES) == RUHVASTO_UNSOUND_BOOK); /* two marks at one side and price */
+}
+
+/* 2 comes before 11 and 12, and 11 before 12. A reserve order has no old form wherever it stands and whatever it hides. */
+static void conversion_refusals(void)
+{
+    const size_t new_len = OLD_ORDERS * RUHVASTO_RECORD_BYTES, old_len = OLD_ORDERS * RUHVASTO_OLD_RECORD_BYTES;
+    for (uint32_t place = 0; place < OLD_ORDERS; place++) {
+        for (uint32_t hidden = 0; hidden <= 5; hidden += 5) {
+            clear();
+            for (uint32_t i = 0; i < OLD_ORDERS; i++) {
+                const ruhvasto_add_request reserve = R(i + 1, 100, hidden), other = D(i + 1, 100);
+                EXPECT(put_in(new_len, i == place ? reserve : other) == RUHVASTO_ACCEPTED);
+            }
+            EXPECT(to_old(new_len, old_len) == RUHVASTO_NO_OLD_FORM && to_old(new_len, old_len - 1) == RUHVASTO_NO_OLD_FORM);
+            EXPECT(to_old(new_len, 0) == RUHVASTO_NO_OLD_FORM && to_old(new_len, RUHVASTO_BOOK_BYTES) == RUHVASTO_NO_OLD_FORM);
+            book[21] = 1;
+            EXPECT(to_old(new_len, old_len) == RUHVASTO_UNSOUND_BOOK && to_old(new_len, 0) == RUHVASTO_UNSOUND_BOOK);
+        }
+    }
+    static const size_t places[] = { 0, 1, 2, 3, 21, 31 };
+    for (size_t i = 0; i < sizeof places / sizeof *places; i++) {
+        enter_old_orders(OLD_ORDERS);
+        old[places[i]] = RUHVASTO_RESERVE;
+        EXPECT(to_new(old_len, new_len) == RUHVASTO_UNSOUND_BOOK && to_new(old_len, new_len - 1) == RUHVASTO_UNSOUND_BOOK);
+        EXPECT(to_new(old_len, 0) == RUHVASTO_UNSOUND_BOOK);
+    }
+}
+
 int main(void)
 {
     EXPECT(ruhvasto_version() == RUHVASTO_VERSION);
@@ -924,6 +1134,10 @@ int main(void)
     reserve_entered();
     reserve_ladder();
     most_executions();
+    turned();
+    target_lengths();
+    old_soundness();
+    conversion_refusals();
     printf("%d passed, %d failed\n", passed, failed);
     return failed != 0;
 }

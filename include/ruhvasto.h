@@ -14,9 +14,9 @@
  *
  * WHAT THE CALLER GETS. Every call ends. Nothing is allocated, and nothing is kept between calls: calls on buffers of their own may run in
  * any number of threads at once. A call that is lent a ladder uses less than RUHVASTO_LADDER_STACK_BYTES of stack, take less than
- * RUHVASTO_TAKE_STACK_BYTES and every other call less than RUHVASTO_STACK_BYTES, beside what those two functions of the C library use. It
- * is proved of the source that what a call returns and every byte that it leaves in each buffer is what the definitions of the rule say,
- * refused or not; the compiler is trusted.
+ * RUHVASTO_TAKE_STACK_BYTES, to_new and to_old less than RUHVASTO_CONVERSION_STACK_BYTES and every other call less than
+ * RUHVASTO_STACK_BYTES, beside what those two functions of the C library use. It is proved of the source that what a call returns and every
+ * byte that it leaves in each buffer is what the definitions of the rule say, refused or not; the compiler is trusted.
  *
  * A REFUSED CALL returns its refusal number, 0 in every other number that it returns, and changes no byte of any buffer. The refusals are
  * checked in the order in which they are listed below, which isn't that of their numbers, and the first that holds is returned. An accepted
@@ -47,14 +47,15 @@ extern "C" {
 #endif
 
 /* The version of this interface. It rises with every change that a caller can notice, and with every change request. */
-#define RUHVASTO_VERSION 6
+#define RUHVASTO_VERSION 7
 
 /* The last change request that the library has; 0 is the base, without any. */
-#define RUHVASTO_REQUESTS 4
+#define RUHVASTO_REQUESTS 5
 
-/* Bytes of stack that are enough for a call that is lent a ladder, for take, and for every other call. */
+/* Bytes of stack that are enough for a call that is lent a ladder, for take, for to_new and to_old, and for every other call. */
 #define RUHVASTO_LADDER_STACK_BYTES 16000
 #define RUHVASTO_TAKE_STACK_BYTES 16000
+#define RUHVASTO_CONVERSION_STACK_BYTES 16000
 #define RUHVASTO_STACK_BYTES 3000
 
 /* THE BOOK is a buffer of 0 to 10,240 bytes, a whole number of records of 40 bytes. Orders fill its front, in rising order number, which is
@@ -83,15 +84,21 @@ extern "C" {
  * without shares in either part leaves. What an order in a book shows may have any value in its range, beside any hidden shares and any
  * refresh size.
  *
- * Up to version 5 a record had 32 bytes and the mark 4F 42 hex. A program that has RUHVASTO_RECORD_BYTES for them, and names the fields of
- * its requests, compiles as it is. Books aren't mixed: one of records of 32 bytes is refused RUHVASTO_UNSOUND_BOOK, unless it is empty and
- * its length a whole number of 40 bytes too. No call of this edition turns one form into the other.
- *
  * An order number may be used again once every order of that number or a higher one has left the book. So a number names one order only at
  * one time: whoever keeps a record of a course writes the time of each take beside its executions. */
 #define RUHVASTO_RECORD_BYTES 40
 #define RUHVASTO_BOOK_ORDERS 256
 #define RUHVASTO_BOOK_BYTES 10240
+
+/* AN OLD BOOK is one as it was up to version 5, and as older boxes still have it: a buffer of 0 to 8,192 bytes, a whole number of records of
+ * 32 bytes. These begin with the mark 4F 42 hex, end with byte 31, and have no kind but displayed, non-displayed and minimum quantity; all
+ * else is as above. Later versions don't change this form.
+ *
+ * ruhvasto_to_new turns an old book into the form above, the new one, and ruhvasto_to_old goes back. Every other call takes the new form
+ * alone: it refuses an old book RUHVASTO_UNSOUND_BOOK, unless that is empty and its length a whole number of 40 bytes too. A book has no
+ * records of both forms. */
+#define RUHVASTO_OLD_RECORD_BYTES 32
+#define RUHVASTO_OLD_BOOK_BYTES 8192
 
 /* AN EXECUTION has 16 bytes, and the same order of bytes in a number.
  *
@@ -164,9 +171,12 @@ enum {
     RUHVASTO_ACCEPTED = 0,
     RUHVASTO_OUT_OF_RANGE = 1,    /* a number given in the call is outside its range; that of a minimum, of hidden shares and of a refresh
                                      size goes by the kind and the size */
-    RUHVASTO_UNSOUND_BOOK = 2,    /* the book isn't sound, its length included */
+    RUHVASTO_UNSOUND_BOOK = 2,    /* the book, for to_new an old book, isn't sound, its length included */
     RUHVASTO_LADDER_LENGTH = 9,   /* calls with a ladder: its length isn't 6,144 bytes */
     RUHVASTO_OTHER_LADDER = 10,   /* calls that keep a ladder: some byte of it isn't what ruhvasto_ladder would write for the book */
+    RUHVASTO_NO_OLD_FORM = 11,    /* to_old: the book has a reserve order, which the old form can't tell; also one that hides nothing */
+    RUHVASTO_UNFIT_TARGET = 12,   /* to_new, to_old: the target isn't a whole number of records of its form, or has more than 256, or fewer
+                                     than there are orders */
     RUHVASTO_UNKNOWN_NUMBER = 3,  /* find, reduce: no order has the number */
     RUHVASTO_STALE_NUMBER = 4,    /* add: the number isn't above every number in the book */
     RUHVASTO_COULD_TRADE = 5,     /* add: on the other side an order within the price is displayed, non-displayed or a reserve order, or is
@@ -296,6 +306,23 @@ RUHVASTO_USE_ANSWER RUHVASTO_NO_NULL
 ruhvasto_taken ruhvasto_take_ladder(uint8_t *book, size_t book_len, uint8_t *executions, size_t executions_len, uint8_t *ladder,
     size_t ladder_len, ruhvasto_take_request request);
 
+/* FROM ONE FORM OF BOOK TO THE OTHER. Each of these two reads a book, the source, and writes its orders in the other form into a second
+ * buffer, the target.
+ * Accepted, every byte of the target is written, whatever it was: for each order a record with the mark of the target's form, bytes 2 to 31
+ * as they were and, in the new form, zeros behind them; then zeros to the end. So the target is a sound book of its form with the same
+ * orders. It may have more records than the source, or fewer; one with as many is never refused RUHVASTO_UNFIT_TARGET. There and back gives
+ * the same records, and the same bytes where the last target is as long as the first source. */
+
+/* An old book into the new form.
+ * Refusals: RUHVASTO_UNSOUND_BOOK, RUHVASTO_UNFIT_TARGET. */
+RUHVASTO_USE_ANSWER RUHVASTO_NO_NULL
+uint32_t ruhvasto_to_new(const uint8_t *old, size_t old_len, uint8_t *target, size_t target_len);
+
+/* A book into the old form.
+ * Refusals: RUHVASTO_UNSOUND_BOOK, RUHVASTO_NO_OLD_FORM, RUHVASTO_UNFIT_TARGET. */
+RUHVASTO_USE_ANSWER RUHVASTO_NO_NULL
+uint32_t ruhvasto_to_old(const uint8_t *book, size_t book_len, uint8_t *target, size_t target_len);
+
 /* For reading what the calls return and write. These functions are not in the library; they are compiled where they are used. */
 
 /* A refusal number in words. Every number has some: one that no call returns is an "unknown refusal". */
@@ -307,6 +334,8 @@ static inline const char *ruhvasto_refusal_name(uint32_t refusal)
     case RUHVASTO_UNSOUND_BOOK: return "unsound book";
     case RUHVASTO_LADDER_LENGTH: return "ladder length";
     case RUHVASTO_OTHER_LADDER: return "other ladder";
+    case RUHVASTO_NO_OLD_FORM: return "no old form";
+    case RUHVASTO_UNFIT_TARGET: return "unfit target";
     case RUHVASTO_UNKNOWN_NUMBER: return "unknown number";
     case RUHVASTO_STALE_NUMBER: return "stale number";
     case RUHVASTO_COULD_TRADE: return "could trade";
@@ -331,7 +360,7 @@ typedef struct {
     uint32_t side, kind, number, price, size, minimum, setter, hidden, refresh;
 } ruhvasto_order;
 
-/* Of the 40 bytes of a record. */
+/* Of the 40 bytes of a record; that of an old book has fewer. */
 RUHVASTO_NO_NULL static inline ruhvasto_order ruhvasto_order_at(const uint8_t *record)
 {
     ruhvasto_order order;

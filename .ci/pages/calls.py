@@ -1,8 +1,8 @@
 """docs/CALLS.md: the tables of calls, and the cases by hand."""
 import re
 
-from pages.library import (CALLS, FORMS, KINDS, RECORD, Take, Wrong, answer, executions_in, fillsheet, listed, orders_in, rows_in, sheet_of,
-                           totals, traded)
+from pages.library import (CALLS, FORMS, KINDS, Take, Wrong, answer, executions_in, fillsheet, lent_book, listed, orders_in, rows_in, sheet_of,
+                           totals, traded, turned)
 from pages.markdown import codes, figures, number, read
 from pages.page import Page, tried, values_in
 
@@ -25,15 +25,17 @@ class Calls(Page):
         "buffer | bytes of the ladder | returned": "ladders",
         "row | side | price | displayed shares | other shares | orders": "rows",
         "call | numbers; of take then the bytes for executions | ladder | returned | rows afterwards": "kept",
+        "call | source | bytes of the target | returned | why": "conversions",
         "paragraph | algorithm 1 | algorithms 2 and 3": "paragraphs",
         "order | size | exact share | first step | lacks | rest | second step | gets": "sharing",
         "algorithm | paragraph | order | minimum | shares left | gets": "turns",
     }
-    has = {"refusals": 1, "stack": 1, "prototypes": 7, "ranges": 4, "answers": 3, "checks": 1, "finds": 1, "adds": 2, "records": 2, "reduces": 2,
-           "taken": 2, "ladders": 1, "rows": 1, "kept": 1, "paragraphs": 1, "sharing": 5, "printed": 3, "turns": 1}
+    has = {"refusals": 1, "stack": 1, "prototypes": 8, "ranges": 4, "answers": 3, "checks": 1, "finds": 1, "adds": 2, "records": 2, "reduces": 2,
+           "taken": 2, "ladders": 1, "rows": 1, "kept": 1, "conversions": 2, "paragraphs": 1, "sharing": 5, "printed": 3, "turns": 1}
     prose = ("condition", "why")
     given = ("buffer", "looked for", "side, kind, number, price, size, minimum, hidden, refresh", "number, shares", "side, limit, size, algorithm",
-             "bytes for executions", "bytes of the ladder", "numbers; of take then the bytes for executions", "ladder")
+             "bytes for executions", "bytes of the ladder", "numbers; of take then the bytes for executions", "ladder", "source",
+             "bytes of the target")
 
     def code(self, lines):
         return "prototypes" if lines[0].startswith("C  ") else "printed" if self.before.endswith("Printed:") else None
@@ -52,7 +54,7 @@ class Calls(Page):
 
     def stack(self, rows):
         names = {"check, find, add, reduce": "STACK_BYTES", "take": "TAKE_STACK_BYTES",
-                 "ladder, and the forms with a ladder": "LADDER_STACK_BYTES"}
+                 "ladder, and the forms with a ladder": "LADDER_STACK_BYTES", "to_new, to_old": "CONVERSION_STACK_BYTES"}
         for (line, row), (calls, name) in zip(rows, names.items(), strict=True):
             self.hold(line, row, [calls, f"{self.header[name]:,}", f"`RUHVASTO_{name}`"])
 
@@ -102,20 +104,9 @@ class Calls(Page):
             self.hold(line, [row[0], figures(row[1]), [] if row[2] == "empty" else figures(row[2])],
                       [name, numbers, [] if name.startswith("the part") else refused])
 
-    # A buffer as the tables of check and find have it.
+    # A book as the tables have it that say what a call is lent.
     def buffer(self, said):
-        if match := re.match(r"(\d+) zeros$", said):
-            return bytes(int(match[1]))
-        if match := re.match(r"the book, in records of (\d+) bytes with the mark (\w\w \w\w) hex$", said):
-            mark, size = bytes.fromhex(match[2]), int(match[1])
-            return b"".join(mark + self.book[at + 2:at + size] for at in range(0, len(self.book), RECORD))
-        match = re.match(r"the book(?:, byte (\d+) = (\w\w) hex)?$", said)
-        data = bytearray(self.book)
-        if match[1]:
-            if data[int(match[1])] == int(match[2], 16):
-                raise Wrong(f"no change: {said}")
-            data[int(match[1])] = int(match[2], 16)
-        return bytes(data)
+        return lent_book(said, self.book)
 
     def checks(self, rows):
         for line, (buffer, said) in rows:
@@ -189,6 +180,16 @@ class Calls(Page):
             else:
                 self.hold(line, ladder == self.library.ladder(book), True)
                 self.book, self.ladder = book, ladder
+
+    # Whatever stood in the target; refused, it still stands there. Accepted, it is the source in the other form, and leads back to it.
+    def conversions(self, rows):
+        for line, (call, lent, length, said, _) in rows:
+            source, length = self.buffer(lent), number(length)
+            refusal, target = self.library.convert(call, source, length)
+            self.hold(line, [said, target], [str(refusal), bytes([238] * length) if refusal else turned(source, call, length)])
+            if not refusal:
+                back = "to_old" if call == "to_new" else "to_new"
+                self.hold(line, self.library.convert(back, target, len(source)), (0, source))
 
     def paragraphs(self, rows):
         lot = self.header["ROUND_LOT"]

@@ -1,4 +1,4 @@
-"""What the pages are held to: the header's constants, the library's calls and fillsheet; and their answers as the pages write them."""
+"""What the pages are held to: the header's constants, the library's calls and the programs; and their answers as the pages write them."""
 import collections
 import functools
 import os
@@ -7,13 +7,14 @@ import subprocess
 
 from pages.markdown import number, read
 
-HEADER, ARCHIVE, FILLSHEET = "include/ruhvasto.h", "target/staticlib/libruhvasto.a", "target/bin/fillsheet"
-CALLS = ["check", "find", "add", "reduce", "take", "ladder"]
+HEADER, ARCHIVE = "include/ruhvasto.h", "target/staticlib/libruhvasto.a"
+FILLSHEET, CONVERT = "target/bin/fillsheet", "target/bin/convert"
+CALLS = ["check", "find", "add", "reduce", "take", "ladder", "to_new", "to_old"]
 FORMS = ["add", "reduce", "take"]  # the calls that also have a form with a ladder
 SIDES = {"buy": 1, "sell": 2}
 KINDS = {"D": 1, "H": 2, "M": 3, "R": 4}
 ORDER = re.compile(r"(?:(buy|sell) )?([DHMR]) ([\d,]+)(?:\+([\d,]+))?(?:/([\d,]+))?(?: at (\d+))?$")
-RECORD = 40  # bytes
+RECORD, OLD_RECORD = 40, 32  # bytes
 TAKE = re.compile(r"(buy|sell) ([\d,]+)(?: at (\d+))?, algorithms? (\d)(?: and (\d))?$")
 
 Order = collections.namedtuple("Order", "side kind number price size minimum setter hidden refresh")
@@ -68,6 +69,13 @@ class Library:
         self.process.stdin.flush()
         *answer, book, executions, ladder = self.process.stdout.readline().split()
         return tuple(map(int, answer)), *(bytes.fromhex(buffer[1:]) for buffer in (book, executions, ladder))
+
+    # The refusal number of a conversion into a target of so many bytes, which have this value before; and the target afterwards.
+    def convert(self, name, source, length, before=238):
+        (refusal,), after, target = self.call(name, source, executions=bytes([before] * length))
+        if after != source:
+            raise Wrong(f"{name} changed its source")
+        return refusal, target
 
     # The ladder that a new call makes of a book, whatever stood in it.
     @functools.lru_cache(maxsize=None)
@@ -128,6 +136,37 @@ def printed_of(sheet):
     return subprocess.run([FILLSHEET], input=sheet, check=True, capture_output=True, text=True).stdout.splitlines()
 
 
+# What convert writes of a book.
+@functools.lru_cache(maxsize=None)
+def converted(book):
+    return subprocess.run([CONVERT], input=book, check=True, capture_output=True).stdout
+
+
+# The records of a book in the other form, as a conversion has to write them, with zeros up to a length.
+def turned(book, name, length):
+    width, mark, more = (OLD_RECORD, b"\x4f\x43", RECORD - OLD_RECORD) if name == "to_new" else (RECORD, b"\x4f\x42", 0)
+    records = [mark + book[at + 2:at + OLD_RECORD] + bytes(more) for at in range(0, len(book), width) if book[at]]
+    return b"".join(records).ljust(length, b"\0")
+
+
+# A book in the old form, with as many records.
+def in_old_form(book):
+    return turned(book, "to_old", len(book) // RECORD * OLD_RECORD)
+
+
+# A buffer as the pages say that it is lent: zeros, or a book, in the old form or not, perhaps with a byte changed.
+def lent_book(said, book):
+    if match := re.match(r"(\d+) zeros$", said):
+        return bytes(int(match[1]))
+    match = re.match(r"the book( in the old form)?(?:, byte (\d+) = (\w\w) hex)?$", said)
+    data = bytearray(in_old_form(book) if match[1] else book)
+    if match[2]:
+        if data[int(match[2])] == int(match[3], 16):
+            raise Wrong(f"no change: {said}")
+        data[int(match[2])] = int(match[3], 16)
+    return bytes(data)
+
+
 # The longest sheet that fillsheet looks at, if that is so many line feeds: of one more it prints one line, not one for each.
 @functools.lru_cache(maxsize=None)
 def is_longest_sheet(feeds):
@@ -145,8 +184,9 @@ def numbers_at(data, places):
     return [int.from_bytes(data[at:at + 4], "little") for at in places]
 
 
-def orders_in(book):
-    records = (book[at:at + RECORD] for at in range(0, len(book), RECORD))
+# The orders of a book; of an old one, with records of another width, nothing is hidden.
+def orders_in(book, width=RECORD):
+    records = (book[at:at + width] for at in range(0, len(book), width))
     return [Order(r[2], r[3], *numbers_at(r, (4, 8, 12, 16)), r[20], *numbers_at(r, (32, 36))) for r in records if r[0]]
 
 

@@ -6,7 +6,10 @@ from pages.library import Wrong, takes_in
 from pages.markdown import NUMBER, blocks, cells, figures, title
 
 # What a page says in a fixed wording beside its tables.
-WORDS = re.compile(r"\*\*(Book|Take|Reduce|Refresh|Guarantee):\*\* (.*?)\.(?= |$)")
+WORDS = re.compile(r"\*\*(Book|Take|Reduce|Refresh|Guarantee|Conversion):\*\* (.*?)\.(?= |$)")
+
+# Of these words, and of others that stand beside tables, the parts that have numbers which are run.
+PLACES = re.compile(r"\*\*(?:Book|Take|Reduce|Refresh|Guarantee|Conversion):\*\* .*?(?:\.(?= |$)|$)|S = [\d,]+, Q = [\d,]+|`\{.*?\}`")
 
 
 class Page:
@@ -92,9 +95,9 @@ class Page:
 
     def places_in_words(self, block):
         for i, line in enumerate(block.lines):
-            for match in re.finditer(r"\*\*(?:Book|Take|Reduce|Refresh|Guarantee):\*\* .*?(?:\.(?= |$)|$)|S = [\d,]+, Q = [\d,]+|`\{.*?\}`", line):
+            for match in re.finditer(PLACES, line):
                 shift = match.start()
-                given = match[0].startswith(("**Book", "**Take", "**Reduce"))
+                given = match[0].startswith(("**Book", "**Take", "**Reduce", "**Conversion"))
                 yield from ((block.line + i, shift + a, shift + b, given) for a, b in spans(match[0]))
 
     def places_in_code(self, block):

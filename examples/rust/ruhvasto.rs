@@ -2,9 +2,11 @@
 //! says, never NULL, and two that are lent at once to be written never overlap: so these functions are safe.
 
 /// The version of the interface that this module is written for.
-pub const VERSION: u32 = 6;
+pub const VERSION: u32 = 7;
 
 pub const RECORD_BYTES: usize = 40;
+/// Of a record of an old book.
+pub const OLD_RECORD_BYTES: usize = 32;
 pub const EXECUTION_BYTES: usize = 16;
 /// An execution buffer of this length is never too small.
 pub const EXECUTIONS_BYTES: usize = 8192;
@@ -15,6 +17,28 @@ pub const LADDER_BYTES: usize = 6144;
 /// The refusal number.
 #[derive(Clone, Copy, Debug, PartialEq, Eq)]
 pub struct Refusal(pub u32);
+
+impl Refusal {
+    /// In words.
+    pub fn name(self) -> &'static str {
+        match self.0 {
+            0 => "accepted",
+            1 => "out of range",
+            2 => "unsound book",
+            3 => "unknown number",
+            4 => "stale number",
+            5 => "could trade",
+            6 => "book full",
+            7 => "too many shares",
+            8 => "small buffer",
+            9 => "ladder length",
+            10 => "other ladder",
+            11 => "no old form",
+            12 => "unfit target",
+            _ => "unknown refusal",
+        }
+    }
+}
 
 #[derive(Clone, Copy)]
 pub enum Side {
@@ -150,6 +174,18 @@ mod c {
             ladder_len: usize,
             request: TakeRequest,
         ) -> Taken;
+        pub fn ruhvasto_to_new(
+            old: *const u8,
+            old_len: usize,
+            target: *mut u8,
+            target_len: usize,
+        ) -> u32;
+        pub fn ruhvasto_to_old(
+            book: *const u8,
+            book_len: usize,
+            target: *mut u8,
+            target_len: usize,
+        ) -> u32;
     }
 }
 
@@ -300,6 +336,20 @@ pub fn take_ladder(
             ladder.len(),
             request.for_c(),
         )
+    })
+}
+
+/// An old book into the new form, whatever stood in the target.
+pub fn to_new(old: &[u8], target: &mut [u8]) -> Result<(), Refusal> {
+    accepted(unsafe {
+        c::ruhvasto_to_new(old.as_ptr(), old.len(), target.as_mut_ptr(), target.len())
+    })
+}
+
+/// A book into the old form, whatever stood in the target.
+pub fn to_old(book: &[u8], target: &mut [u8]) -> Result<(), Refusal> {
+    accepted(unsafe {
+        c::ruhvasto_to_old(book.as_ptr(), book.len(), target.as_mut_ptr(), target.len())
     })
 }
 

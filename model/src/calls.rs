@@ -1,6 +1,6 @@
 //! Check, find, add and reduce.
 
-use crate::book::{self, Order, RECORD_LENGTH, ROUND_LOT};
+use crate::book::{self, Form, Order, RECORD_LENGTH, ROUND_LOT};
 use crate::Refusal;
 
 /// The refusal number and the number of orders.
@@ -26,24 +26,13 @@ pub fn add(book: &mut [u8], order: [u32; 8]) -> u32 {
     let outcome = Order::of_request(order)
         .ok_or(Refusal::OutOfRange)
         .and_then(|order| with_order(book, order));
-    settle(book, outcome)
+    book::settle(Form::New, book, outcome)
 }
 
 /// Takes shares from an order. Gives the refusal number.
 pub fn reduce(book: &mut [u8], number: u32, shares: u32) -> u32 {
     let outcome = with_fewer_shares(book, number, shares);
-    settle(book, outcome)
-}
-
-/// Writes the new orders, or leaves the book alone. Gives the refusal number.
-fn settle(book: &mut [u8], outcome: Result<Vec<Order>, Refusal>) -> u32 {
-    match outcome {
-        Ok(orders) => {
-            book::write(book, &orders);
-            0
-        }
-        Err(refusal) => refusal as u32,
-    }
+    book::settle(Form::New, book, outcome)
 }
 
 /// The orders of the book, and the place of the one with this number.

@@ -1,7 +1,8 @@
 //! Order allocation after PSX Rule 3307, written plainly from the rule and its
 //! scope, so that the library can be compared with it: five calls on the bytes
 //! of a lent book, the ladder beside it with a call and three forms of its own,
-//! and the fillsheet.
+//! two calls between the old form of a book and the new one, and the programs
+//! fillsheet and convert.
 //!
 //! A book is read into a list of orders, the list is changed, and the whole
 //! book is written anew. Nothing here is meant to be fast, save the module
@@ -9,16 +10,22 @@
 
 pub mod book;
 mod calls;
+mod conversion;
+mod convert;
 pub mod fast;
 mod fillsheet;
 pub mod ladder;
 mod order;
+mod program;
 mod sharing;
 mod take;
 
 pub use calls::{add, check, find, reduce};
+pub use conversion::{to_new, to_old};
+pub use convert::convert;
 pub use fillsheet::{fillsheet, LONGEST_INPUT};
 pub use ladder::{add_ladder, ladder, reduce_ladder, take_ladder, LADDER_LENGTH};
+pub use program::from_input_to_output;
 pub use take::{read_executions, take, Execution, EXECUTION_LENGTH};
 
 /// Why a call is refused. The conditions are looked at in this order.
@@ -28,6 +35,8 @@ pub enum Refusal {
     UnsoundBook = 2,
     LadderLength = 9,
     LadderOfAnotherBook = 10,
+    OldFormCannotTell = 11,
+    TargetUnfit = 12,
     NoSuchOrder = 3,
     NumberNotAboveAll = 4,
     CouldTrade = 5,

@@ -1,9 +1,10 @@
 //! The scope's cases, its refusals in their order, the readings of the rule that
 //! it rules out, what each paragraph of the rule says, what executions name, the
-//! ladder beside the book, and reserve orders.
+//! ladder beside the book, reserve orders, and old books.
 
 mod books;
 mod cases;
+mod conversions;
 mod desk;
 mod executions;
 mod keeping;
@@ -11,6 +12,7 @@ mod keeping_refused;
 mod ladders;
 mod leaving;
 mod lines;
+mod old_books;
 mod paragraphs;
 mod readings;
 mod refusals;

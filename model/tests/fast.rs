@@ -1,13 +1,14 @@
 //! The fast calls against the plain ones on random books: the same numbers, and
 //! the same bytes in every buffer.
 
-use model::book::{self, Kind, Order, HIGHEST_PRICE, LARGEST_SIZE, LONGEST_BOOK, RECORD_LENGTH};
+use model::book::{
+    self, Kind, Order, HIGHEST_PRICE, LARGEST_SIZE, LONGEST_BOOK, MOST_ORDERS, RECORD_LENGTH,
+};
 use model::ladder::ROW_LENGTH;
 use model::{fast, LADDER_LENGTH};
 use support::Random;
 
 const SEED: u64 = 3307;
-const MOST_ORDERS: usize = LONGEST_BOOK / RECORD_LENGTH;
 
 /// What the orders of a book look like.
 struct Shape {

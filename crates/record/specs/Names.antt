@@ -1,8 +1,11 @@
--- The numbers of an order's record by name, for the functions that read one. No call's meaning rests on it.
+-- The numbers of an order's record and its forms by name, for the functions that read one. No call's meaning rests on it.
 use Prim.Native.Nat.{ℕ}
 use mathlib.Core.List.{List}
 use lib.ListN.{getD}
 use Rattle.record.specs.declared.order_record.Numbers.{Numbers}
+use Rattle.record.specs.declared.form.RecordForm.{RecordForm}
+use Rattle.record.specs.declared.form.RecordForm.the-variants.{Old, New}
+use Rattle.record.specs.Record.{OrderForm, oldForm, newForm}
 
 abbrev pub namedNumbers : List ℕ → Numbers
 namedNumbers ns = record {
@@ -16,3 +19,7 @@ namedNumbers ns = record {
   hidden = getD ns 10 0;
   refresh = getD ns 11 0;
 }
+
+abbrev pub formOf : RecordForm → OrderForm
+formOf Old = oldForm
+formOf New = newForm

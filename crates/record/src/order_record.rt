@@ -1,5 +1,6 @@
 // The record of an order in the new form, 40 bytes, both ways, and what makes one sound.
 use crate::bytes;
+use crate::form::NEW_MARK;
 use orders::order::Kind;
 use orders::order::Order;
 use orders::order::Side;
@@ -74,15 +75,12 @@ pub fn rests_after(n: Numbers, shown: Shares, hidden: Shares) -> bool
     (shown.0 < n.size) | (hidden.0 < n.hidden)
 }
 
-// The mark that every record of an order begins with.
-const MARK: [u8; 2] = *b"OC";
-
 // Whether the record begins with the mark of an order.
 fn has_mark(rec: &[u8]) -> bool
     requires { ⌜ length (now rec) ≡ 40 ⌝ }
     ensures { λ r. ⌜ r ≡ hasMark (newForm .layout) (now (rec .entry)) ⌝ }
 {
-    bytes::same(&rec[..2], &MARK)
+    bytes::same(&rec[..2], &NEW_MARK)
 }
 
 // Whether the record is sound: the mark, each number in its range, a setter mark on kinds 1 and 4 alone, zeros in bytes 21 to 31, and
@@ -173,6 +171,6 @@ pub fn bytes_of(order: Order) -> [u8; 40]
         r[2],
         r[3],
     ];
-    bytes::put(&mut rec, 0, &MARK);
+    bytes::put(&mut rec, 0, &NEW_MARK);
     rec
 }

@@ -9,7 +9,8 @@ ghost use mathlib.Core.Bool.{true};
 ghost use Prim.Native.Nat.{_+_, _≤_};
 ghost use lib.ListN.{length};
 ghost use Rattle.book.specs.Lookup.{checkCall, findCall};
-ghost use Rattle.book.specs.Sound.{sound, ordersOf};
+ghost use Rattle.record.specs.Record.{newForm, oldForm};
+ghost use Rattle.book.specs.Sound.{sound, ordersOf, soundIn, ordersIn};
 ghost use Rattle.entry.specs.Add.{addCall};
 ghost use Rattle.entry.specs.Reduce.{reduceCall};
 ghost use Rattle.matching.specs.TakeCall.{takeCall};
@@ -17,13 +18,14 @@ ghost use Rattle.matching.specs.Fairness.{FairTake};
 ghost use Rattle.ladder.specs.Ladder.{madeOf, ladderCall, addLadderCall, reduceLadderCall, takeLadderCall};
 ghost use Rattle.ladder.specs.Rows.{rowsOf};
 ghost use Rattle.ladder.specs.Depth.{Tells};
+ghost use Rattle.conversion.specs.Conversion.{toNewCall, toOldCall};
 
 // The version of the interface, as the header's RUHVASTO_VERSION.
 #[no_mangle]
 pub extern "C" fn ruhvasto_version() -> u32
-    ensures { λ r. ⌜ r ≡ 6 ⌝ }
+    ensures { λ r. ⌜ r ≡ 7 ⌝ }
 {
-    6
+    7
 }
 
 // Whether the book is sound, and how many orders it has.
@@ -151,4 +153,26 @@ pub extern "C" fn ruhvasto_take_ladder(
         × (now (executions .exit) ≡ takeCall request (now (book .entry)) (now (executions .entry)) .executions)) ⌝ }
 {
     ladder::take(book, executions, ladder, request)
+}
+
+// An old book goes to the target in the new form.
+#[no_mangle]
+pub extern "C" fn ruhvasto_to_new(old: &[u8], target: &mut [u8]) -> u32
+    ensures refused { λ r. ⌜ r ≡ toNewCall (now (old .entry)) (now (target .entry)) .refusal ⌝ }
+    ensures bytes { λ r. ⌜ now (target .exit) ≡ toNewCall (now (old .entry)) (now (target .entry)) .book ⌝ }
+    ensures made_sound { λ r. ⌜ (r ≡ 0 → soundIn newForm (now (target .exit)) ≡ true) ⌝ }
+    ensures same_orders { λ r. ⌜ (r ≡ 0 → ordersIn newForm (now (target .exit)) ≡ ordersIn oldForm (now (old .entry))) ⌝ }
+{
+    conversion::to_new(old, target)
+}
+
+// A book goes to the target in the old form.
+#[no_mangle]
+pub extern "C" fn ruhvasto_to_old(book: &[u8], target: &mut [u8]) -> u32
+    ensures refused { λ r. ⌜ r ≡ toOldCall (now (book .entry)) (now (target .entry)) .refusal ⌝ }
+    ensures bytes { λ r. ⌜ now (target .exit) ≡ toOldCall (now (book .entry)) (now (target .entry)) .book ⌝ }
+    ensures made_sound { λ r. ⌜ (r ≡ 0 → soundIn oldForm (now (target .exit)) ≡ true) ⌝ }
+    ensures same_orders { λ r. ⌜ (r ≡ 0 → ordersIn oldForm (now (target .exit)) ≡ ordersIn newForm (now (book .entry))) ⌝ }
+{
+    conversion::to_old(book, target)
 }

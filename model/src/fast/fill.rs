@@ -1,6 +1,6 @@
 //! Fills, and the groups that they stand in.
 
-use super::soundness::MOST_ORDERS;
+use crate::book::MOST_ORDERS;
 
 /// What a part of an order gets, or may get, as one number that sorts by price
 /// (the best first), then paragraph, then order number: the rank of the price in

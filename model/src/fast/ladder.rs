@@ -2,8 +2,8 @@
 
 use super::calls::refusal_of;
 use super::record::{hidden_of, Bytes, Record};
-use super::soundness::{all_zero, sound, MOST_ORDERS};
-use crate::book::Side;
+use super::soundness::{all_zero, sound};
+use crate::book::{Side, MOST_ORDERS};
 use crate::ladder::ROW_LENGTH;
 use crate::{Refusal, LADDER_LENGTH};
 

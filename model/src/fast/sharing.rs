@@ -1,8 +1,7 @@
 //! How a group shares what reaches it where that is less than the group has.
 
 use super::fill::Fill;
-use super::soundness::MOST_ORDERS;
-use crate::book::{LARGEST_SIZE, ROUND_LOT};
+use crate::book::{LARGEST_SIZE, MOST_ORDERS, ROUND_LOT};
 
 /// The parts of orders of a price and paragraph, at most one of each order.
 pub struct Group<'a> {

@@ -1,11 +1,8 @@
 //! The pass over a book that finds whether it is sound.
 
 use super::record::{Bytes, Record};
-use crate::book::{Side, LONGEST_BOOK, RECORD_LENGTH};
+use crate::book::{Side, MOST_ORDERS, RECORD_LENGTH};
 use crate::Refusal;
-
-/// The most orders that a book has.
-pub const MOST_ORDERS: usize = LONGEST_BOOK / RECORD_LENGTH;
 
 /// What the pass finds out beside soundness.
 pub struct Sound {

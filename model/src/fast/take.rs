@@ -5,9 +5,9 @@ use super::fill::{group_end, keep, Fill};
 use super::record::{Bytes, Record, NON_DISPLAYED};
 use super::settlement;
 use super::sharing::{self, Group, Scratch};
-use super::soundness::{sound, MOST_ORDERS};
+use super::soundness::sound;
 use super::taker::Taker;
-use crate::book::{self, Side, ROUND_LOT};
+use crate::book::{self, Side, MOST_ORDERS, ROUND_LOT};
 use crate::{Refusal, EXECUTION_LENGTH};
 
 /// A shown and a hidden part of each order.

@@ -1,7 +1,7 @@
 //! The calls as values, and the random making of calls for a book.
 
-use crate::shapes::Shape;
-use model::book::{Order, Side, HIGHEST_PRICE, LARGEST_SIZE};
+use books::Shape;
+use model::book::{Form, Order, Side, HIGHEST_PRICE, LARGEST_SIZE};
 use support::Random;
 
 #[derive(Clone, Copy, Debug, PartialEq, Eq)]
@@ -21,6 +21,8 @@ pub enum Call {
     AddLadder([u32; 8]),
     ReduceLadder([u32; 2]),
     TakeLadder([u32; 4]),
+    ToNew,
+    ToOld,
 }
 
 impl Call {
@@ -35,6 +37,28 @@ impl Call {
             Call::AddLadder(_) => "add_ladder",
             Call::ReduceLadder(_) => "reduce_ladder",
             Call::TakeLadder(_) => "take_ladder",
+            Call::ToNew => "to_new",
+            Call::ToOld => "to_old",
+        }
+    }
+
+    /// The call that turns a book of this form into the other.
+    pub fn turning(form: Form) -> Call {
+        match form {
+            Form::Old => Call::ToNew,
+            Form::New => Call::ToOld,
+        }
+    }
+
+    pub fn is_turning(self) -> bool {
+        matches!(self, Call::ToNew | Call::ToOld)
+    }
+
+    /// The form of the book that the call is made on.
+    pub fn form(self) -> Form {
+        match self {
+            Call::ToNew => Form::Old,
+            _ => Form::New,
         }
     }
 
@@ -64,7 +88,7 @@ impl Call {
 
     fn numbers(&mut self) -> &mut [u32] {
         match self {
-            Call::Check | Call::Ladder => &mut [],
+            Call::Check | Call::Ladder | Call::ToNew | Call::ToOld => &mut [],
             Call::Find(numbers) => numbers,
             Call::Add(numbers) | Call::AddLadder(numbers) => numbers,
             Call::Reduce(numbers) | Call::ReduceLadder(numbers) => numbers,

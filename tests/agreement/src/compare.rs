@@ -2,9 +2,9 @@
 //! comparison of all that comes of it.
 
 use crate::calls::Call;
-use crate::guarded::{Edge, Lender};
+use crate::guarded::{Edge, Lender, Loan};
 use library::Numbers;
-use model::book::RECORD_LENGTH;
+use model::book::Form;
 use model::ladder::ROW_LENGTH;
 use model::EXECUTION_LENGTH;
 use std::fmt::Write;
@@ -17,6 +17,21 @@ pub struct Entry {
     pub book: Vec<u8>,
     pub executions: Vec<u8>,
     pub ladder: Vec<u8>,
+    /// What the book is turned into another form in.
+    pub target: Vec<u8>,
+}
+
+impl Entry {
+    /// A call that is lent a book alone.
+    pub fn of(call: Call, book: Vec<u8>) -> Entry {
+        Entry {
+            call,
+            book,
+            executions: Vec::new(),
+            ladder: Vec::new(),
+            target: Vec::new(),
+        }
+    }
 }
 
 /// What a call returned, and the bytes of the buffers behind it.
@@ -26,6 +41,7 @@ pub struct Outcome {
     pub book: Vec<u8>,
     pub executions: Vec<u8>,
     pub ladder: Vec<u8>,
+    pub target: Vec<u8>,
 }
 
 impl Outcome {
@@ -41,46 +57,47 @@ pub struct Lending {
     /// Where the buffers lie if the call is made a second time.
     pub again: Option<Edge>,
     /// Whether what stays of a book can't be written: all of it by a call that
-    /// only reads, and by a take each page in which every record stays.
+    /// only reads, and by a take each page in which every record stays. A book that
+    /// is turned into another form can never be written.
     pub read_only: bool,
 }
 
 pub fn by_model(entry: &Entry) -> Outcome {
-    let mut book = entry.book.clone();
-    let mut executions = entry.executions.clone();
-    let mut ladder = entry.ladder.clone();
-    let numbers = match entry.call {
+    let mut after = Outcome {
+        numbers: [0; 3],
+        book: entry.book.clone(),
+        executions: entry.executions.clone(),
+        ladder: entry.ladder.clone(),
+        target: entry.target.clone(),
+    };
+    let book = &mut after.book;
+    let executions = &mut after.executions;
+    let ladder = &mut after.ladder;
+    let target = &mut after.target;
+    after.numbers = match entry.call {
         Call::Check => {
-            let (refusal, orders) = model::check(&book);
+            let (refusal, orders) = model::check(book);
             [refusal as usize, orders as usize, 0]
         }
         Call::Find([number]) => {
-            let (refusal, start, length) = model::find(&book, number);
+            let (refusal, start, length) = model::find(book, number);
             [refusal as usize, start, length]
         }
-        Call::Add(numbers) => only(model::add(&mut book, numbers)),
-        Call::Reduce([number, shares]) => only(model::reduce(&mut book, number, shares)),
+        Call::Add(numbers) => only(model::add(book, numbers)),
+        Call::Reduce([number, shares]) => only(model::reduce(book, number, shares)),
         Call::Take([side, limit, size, algorithm]) => {
-            let taken = model::take(&mut book, &mut executions, side, limit, size, algorithm);
-            all(taken)
+            all(model::take(book, executions, side, limit, size, algorithm))
         }
-        Call::Ladder => only(model::ladder(&book, &mut ladder)),
-        Call::AddLadder(numbers) => only(model::add_ladder(&mut book, &mut ladder, numbers)),
+        Call::Ladder => only(model::ladder(book, ladder)),
+        Call::AddLadder(numbers) => only(model::add_ladder(book, ladder, numbers)),
         Call::ReduceLadder([number, shares]) => {
-            let refusal = model::reduce_ladder(&mut book, &mut ladder, number, shares);
-            only(refusal)
+            only(model::reduce_ladder(book, ladder, number, shares))
         }
-        Call::TakeLadder(numbers) => {
-            let taken = model::take_ladder(&mut book, &mut executions, &mut ladder, numbers);
-            all(taken)
-        }
+        Call::TakeLadder(numbers) => all(model::take_ladder(book, executions, ladder, numbers)),
+        Call::ToNew => only(model::to_new(book, target)),
+        Call::ToOld => only(model::to_old(book, target)),
     };
-    Outcome {
-        numbers,
-        book,
-        executions,
-        ladder,
-    }
+    after
 }
 
 /// An answer that is a refusal number alone.
@@ -97,6 +114,7 @@ pub struct Borrower {
     books: Lender,
     executions: Lender,
     ladders: Lender,
+    targets: Lender,
 }
 
 impl Borrower {
@@ -105,6 +123,7 @@ impl Borrower {
             books: Lender::new(),
             executions: Lender::new(),
             ladders: Lender::new(),
+            targets: Lender::new(),
         }
     }
 
@@ -129,46 +148,72 @@ impl Borrower {
         edge: Edge,
         read_only: bool,
     ) -> Result<Outcome, String> {
-        let mut book = self.books.lend(&entry.book, edge);
-        let mut executions = self.executions.lend(&entry.executions, edge);
-        let mut ladder = self.ladders.lend(&entry.ladder, edge);
-        let numbers = match entry.call {
+        let mut loans = Loans {
+            book: self.books.lend(&entry.book, edge),
+            executions: self.executions.lend(&entry.executions, edge),
+            ladder: self.ladders.lend(&entry.ladder, edge),
+            target: self.targets.lend(&entry.target, edge),
+        };
+        let numbers = loans.call(entry.call, after, read_only);
+        if !loans.margins_are_whole() {
+            return Err(String::from("the library wrote beside a lent buffer"));
+        }
+        Ok(Outcome {
+            numbers,
+            book: loans.book.bytes().to_vec(),
+            executions: loans.executions.bytes().to_vec(),
+            ladder: loans.ladder.bytes().to_vec(),
+            target: loans.target.bytes().to_vec(),
+        })
+    }
+}
+
+/// The buffers that the library is lent for a call.
+struct Loans<'a> {
+    book: Loan<'a>,
+    executions: Loan<'a>,
+    ladder: Loan<'a>,
+    target: Loan<'a>,
+}
+
+impl Loans<'_> {
+    /// The library's call. The book should have these bytes afterwards.
+    fn call(&mut self, call: Call, after: &[u8], read_only: bool) -> Numbers {
+        let book = &mut self.book;
+        let executions = self.executions.bytes();
+        let ladder = self.ladder.bytes();
+        let target = self.target.bytes();
+        match call {
             Call::Check if read_only => book.read_only(library::check),
             Call::Check => library::check(book.bytes()),
             Call::Find([number]) if read_only => book.read_only(|book| library::find(book, number)),
             Call::Find([number]) => library::find(book.bytes(), number),
             Call::Add(numbers) => library::add(book.bytes(), numbers),
             Call::Reduce([number, shares]) => library::reduce(book.bytes(), number, shares),
-            Call::Take(numbers) if read_only => book.keeping(after, |book| {
-                library::take(book, executions.bytes(), numbers)
-            }),
-            Call::Take(numbers) => library::take(book.bytes(), executions.bytes(), numbers),
-            Call::Ladder if read_only => {
-                book.read_only(|book| library::ladder(book, ladder.bytes()))
+            Call::Take(numbers) if read_only => {
+                book.keeping(after, |book| library::take(book, executions, numbers))
             }
-            Call::Ladder => library::ladder(book.bytes(), ladder.bytes()),
-            Call::AddLadder(numbers) => library::add_ladder(book.bytes(), ladder.bytes(), numbers),
+            Call::Take(numbers) => library::take(book.bytes(), executions, numbers),
+            Call::Ladder if read_only => book.read_only(|book| library::ladder(book, ladder)),
+            Call::Ladder => library::ladder(book.bytes(), ladder),
+            Call::AddLadder(numbers) => library::add_ladder(book.bytes(), ladder, numbers),
             Call::ReduceLadder([number, shares]) => {
-                library::reduce_ladder(book.bytes(), ladder.bytes(), number, shares)
+                library::reduce_ladder(book.bytes(), ladder, number, shares)
             }
             Call::TakeLadder(numbers) if read_only => book.keeping(after, |book| {
-                library::take_ladder(book, executions.bytes(), ladder.bytes(), numbers)
+                library::take_ladder(book, executions, ladder, numbers)
             }),
             Call::TakeLadder(numbers) => {
-                let executions = executions.bytes();
-                library::take_ladder(book.bytes(), executions, ladder.bytes(), numbers)
+                library::take_ladder(book.bytes(), executions, ladder, numbers)
             }
-        };
-        let loans = [&book, &executions, &ladder];
-        if !loans.iter().all(|loan| loan.margin_is_whole()) {
-            return Err(String::from("the library wrote beside a lent buffer"));
+            Call::ToNew => book.read_only(|book| library::to_new(book, target)),
+            Call::ToOld => book.read_only(|book| library::to_old(book, target)),
         }
-        Ok(Outcome {
-            numbers,
-            book: book.bytes().to_vec(),
-            executions: executions.bytes().to_vec(),
-            ladder: ladder.bytes().to_vec(),
-        })
+    }
+
+    fn margins_are_whole(&self) -> bool {
+        let loans = [&self.book, &self.executions, &self.ladder, &self.target];
+        loans.iter().all(|loan| loan.margin_is_whole())
     }
 }
 
@@ -182,8 +227,10 @@ pub fn compare(entry: &Entry, model: &Outcome, library: &Outcome) -> Result<(), 
         let (ours, theirs) = (model.numbers, library.numbers);
         let _ = writeln!(text, "returned: model {ours:?}, library {theirs:?}");
     }
+    let form = entry.call.form();
+    let [record, turned] = [form, form.other()].map(Form::record_length);
     let buffers = [
-        ("book", RECORD_LENGTH, &model.book, &library.book),
+        ("book", record, &model.book, &library.book),
         (
             "executions",
             EXECUTION_LENGTH,
@@ -191,6 +238,7 @@ pub fn compare(entry: &Entry, model: &Outcome, library: &Outcome) -> Result<(), 
             &library.executions,
         ),
         ("ladder", ROW_LENGTH, &model.ladder, &library.ladder),
+        ("target", turned, &model.target, &library.target),
     ];
     for (name, width, ours, theirs) in buffers {
         if let Some(place) = (0..ours.len()).find(|&place| ours[place] != theirs[place]) {
@@ -206,13 +254,14 @@ pub fn compare(entry: &Entry, model: &Outcome, library: &Outcome) -> Result<(), 
 fn describe(entry: &Entry) -> String {
     format!(
         "call: {:?}\nbook at entry, {} bytes:\n{}executions buffer of {} bytes\n\
-         ladder at entry, {} bytes:\n{}",
+         ladder at entry, {} bytes:\n{}target of {} bytes\n",
         entry.call,
         entry.book.len(),
-        hex(&entry.book, RECORD_LENGTH),
+        hex(&entry.book, entry.call.form().record_length()),
         entry.executions.len(),
         entry.ladder.len(),
         hex(&entry.ladder, ROW_LENGTH),
+        entry.target.len(),
     )
 }
 

@@ -1,8 +1,8 @@
 //! The groups of rounds that a run has.
 
 use crate::calls::Caller;
-use crate::rounds::{Group, Making};
-use crate::shapes::{Shape, Sizes};
+use crate::rounds::Group;
+use books::{Making, Shape, Sizes};
 use model::book::Side;
 
 /// How often displayed, non-displayed, minimum quantity and reserve orders come.

@@ -3,7 +3,7 @@
 
 use crate::calls::Call;
 use crate::compare::{self, Entry, Outcome};
-use model::book::{LONGEST_BOOK, RECORD_LENGTH};
+use model::book::MOST_ORDERS;
 use model::ladder::ROW_LENGTH;
 use model::{EXECUTION_LENGTH, LADDER_LENGTH};
 use support::Random;
@@ -112,10 +112,8 @@ impl Scene<'_> {
     /// The book that the plain call leaves, with room for all executions.
     fn book_afterwards(&self) -> Vec<u8> {
         let entry = Entry {
-            call: self.call.plain(),
-            book: self.book.to_vec(),
-            executions: vec![0; 2 * LONGEST_BOOK / RECORD_LENGTH * EXECUTION_LENGTH],
-            ladder: Vec::new(),
+            executions: vec![0; 2 * MOST_ORDERS * EXECUTION_LENGTH],
+            ..Entry::of(self.call.plain(), self.book.to_vec())
         };
         compare::by_model(&entry).book
     }

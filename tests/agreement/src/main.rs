@@ -7,19 +7,19 @@
 mod bytewise;
 mod calls;
 mod compare;
-mod damage;
+mod conversions;
 mod groups;
 mod guarded;
 mod ladders;
+mod maker;
 mod rounds;
 mod selfcheck;
-mod shapes;
 mod tally;
 
-use compare::Borrower;
+use maker::Maker;
 use std::env;
 use std::process::ExitCode;
-use support::{Coverage, Report};
+use support::Report;
 
 const DEFAULT_ROUNDS: u64 = 4_000;
 /// Calls that a run of the default length has at least.
@@ -49,37 +49,42 @@ fn main() -> ExitCode {
 
 fn run(rounds: u64, first: u64) -> ExitCode {
     let mut report = Report::default();
-    let mut borrower = Borrower::new();
-    let mut coverage = tally::expected();
+    let mut maker = Maker::new();
     guarded::report_touches();
-    selfcheck::run(&mut report, &mut borrower);
+    selfcheck::run(&mut report, &mut maker.borrower);
     let seeds = first..first + rounds;
     println!("seeds {first} to {}", first + rounds - 1);
-    let mut calls = 0;
     for group in groups::all() {
-        let outcome = group.run(seeds.clone(), &mut borrower, &mut coverage);
-        report.check(group.name, outcome.map(|count| calls += count));
+        report.check(group.name, group.run(seeds.clone(), &mut maker));
     }
-    let mut maker = bytewise::Maker {
-        borrower: &mut borrower,
-        coverage: &mut coverage,
-        calls,
-    };
-    report.check("every byte of a small book changed", maker.books());
-    report.check("every byte of its ladder changed", maker.ladders());
-    let calls = maker.calls;
-    println!("{calls} calls:");
-    coverage.print();
+    for group in conversions::all() {
+        report.check(group.name, group.run(seeds.clone(), &mut maker));
+    }
+    run_bytewise(&mut report, &mut maker);
+    println!("{} calls:", maker.calls);
+    maker.coverage.print();
     if rounds >= DEFAULT_ROUNDS {
-        check_reach(&mut report, &coverage, calls);
+        check_reach(&mut report, &maker);
     }
     report.finish()
 }
 
+fn run_bytewise(report: &mut Report, maker: &mut Maker) {
+    let books = bytewise::books(maker);
+    report.check("every byte of a small book changed", books);
+    let ladders = bytewise::ladders(maker);
+    report.check("every byte of its ladder changed", ladders);
+    let turned = bytewise::turned_books(maker);
+    report.check("every byte of a small book changed, and turned", turned);
+    let targets = bytewise::targets(maker);
+    report.check("every length of a target around its limits", targets);
+}
+
 /// A run of the default length may be blind to nothing.
-fn check_reach(report: &mut Report, coverage: &Coverage, calls: u64) {
-    let enough = calls >= LEAST_CALLS;
-    let few = format!("only {calls}");
+fn check_reach(report: &mut Report, maker: &Maker) {
+    let enough = maker.calls >= LEAST_CALLS;
+    let few = format!("only {}", maker.calls);
     report.check("enough calls", enough.then_some(()).ok_or(few));
-    report.check("all that has to occur occurred", coverage.verdict());
+    let reached = maker.coverage.verdict();
+    report.check("all that has to occur occurred", reached);
 }

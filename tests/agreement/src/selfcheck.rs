@@ -94,24 +94,43 @@ fn sample() -> Entry {
         model::add_ladder(&mut book, &mut ladder, order);
     }
     Entry {
-        call: Call::TakeLadder([1, 100_000, 1_400, 2]),
-        book,
         executions: vec![0x5A; 80],
         ladder,
+        ..Entry::of(Call::TakeLadder([1, 100_000, 1_400, 2]), book)
     }
 }
 
-/// That take with one byte of its ladder changed, for which it is refused.
-fn refused_sample() -> Entry {
-    let mut entry = sample();
-    entry.ladder[LADDER_LENGTH - 1] = 1;
-    entry
+/// That take, and the same with one byte of its ladder changed, for which it is
+/// refused 10.
+fn takes() -> [Entry; 2] {
+    let mut refused = sample();
+    refused.ladder[LADDER_LENGTH - 1] = 1;
+    [sample(), refused]
+}
+
+/// The book of that take, its reserve order as a displayed one, turned into the old
+/// form, and the same with one byte of the book changed, for which it is refused 2.
+fn turnings() -> [Entry; 2] {
+    let mut book = sample().book;
+    book[3] = 1;
+    book[32..40].fill(0);
+    let accepted = Entry {
+        target: vec![0x5A; 128],
+        ..Entry::of(Call::ToOld, book)
+    };
+    let mut refused = accepted.clone();
+    refused.book[21] = 1;
+    [accepted, refused]
 }
 
 /// Whether the comparison sees that the model's outcome has been altered, of an
 /// accepted call and of a refused one.
-fn sees(borrower: &mut Borrower, alter: impl Fn(&mut Outcome)) -> Result<(), String> {
-    for entry in [sample(), refused_sample()] {
+fn sees(
+    borrower: &mut Borrower,
+    samples: [Entry; 2],
+    alter: impl Fn(&mut Outcome),
+) -> Result<(), String> {
+    for entry in samples {
         let lending = Lending {
             again: Some(Edge::Start),
             read_only: false,
@@ -126,24 +145,92 @@ fn sees(borrower: &mut Borrower, alter: impl Fn(&mut Outcome)) -> Result<(), Str
     Ok(())
 }
 
-/// Whether the library is lent the entry's own ladder, and the ladder that it
-/// leaves is the one that is looked at: the sample's changes, and a byte more
-/// makes it a refused one.
-fn ladder_is_lent(borrower: &mut Borrower) -> Result<(), String> {
+/// Whether the library is lent the entry's own ladder or target, and what it leaves
+/// there is looked at: the accepted call changes it, and the one that is refused so
+/// doesn't.
+fn is_lent(borrower: &mut Borrower, samples: [Entry; 2], refusal: usize) -> Result<(), String> {
     let lending = Lending {
         again: Some(Edge::Neither),
         read_only: false,
     };
-    let accepted = borrower.agreed(&sample(), lending)?;
-    let refused = borrower.agreed(&refused_sample(), lending)?;
-    let changed = accepted.refusal() == 0 && accepted.ladder != sample().ladder;
-    let kept = refused.refusal() == 10 && refused.ladder == refused_sample().ladder;
-    (changed && kept)
+    let [accepted, refused] = samples.map(|entry| {
+        let outcome = borrower.agreed(&entry, lending)?;
+        let stays = outcome.ladder == entry.ladder && outcome.target == entry.target;
+        Ok::<_, String>((outcome.refusal(), stays))
+    });
+    (accepted? == (0, false) && refused? == (refusal, true))
         .then_some(())
         .ok_or(String::from("the samples aren't what they should be"))
 }
 
+/// Places of a buffer in which an altered byte has to be seen.
+struct Watched {
+    name: &'static str,
+    samples: fn() -> [Entry; 2],
+    buffer: fn(&mut Outcome) -> &mut Vec<u8>,
+    places: &'static [usize],
+}
+
+const WATCHED: [Watched; 5] = [
+    // The first and the last byte of hidden shares and refresh size, and the zeros
+    // behind the only order that rests.
+    Watched {
+        name: "book",
+        samples: takes,
+        buffer: |outcome| &mut outcome.book,
+        places: &[0, 32, 35, 36, 39, 40, 119],
+    },
+    // Bytes 2 and 3 are an execution's paragraph and the zero behind it.
+    Watched {
+        name: "executions",
+        samples: takes,
+        buffer: |outcome| &mut outcome.executions,
+        places: &[0, 2, 3, 63, 79],
+    },
+    // Row by row: the mark, a share, the count, a zero of a row, the zeros behind.
+    Watched {
+        name: "ladder",
+        samples: takes,
+        buffer: |outcome| &mut outcome.ladder,
+        places: &[0, 8, 17, 23, 24, LADDER_LENGTH - 1],
+    },
+    // The mark, the setter mark, the first record's end, the zeros behind the last.
+    Watched {
+        name: "target",
+        samples: turnings,
+        buffer: |outcome| &mut outcome.target,
+        places: &[1, 20, 31, 32, 96, 127],
+    },
+    Watched {
+        name: "book that is turned",
+        samples: turnings,
+        buffer: |outcome| &mut outcome.book,
+        places: &[0, 119],
+    },
+];
+
 pub fn run(report: &mut Report, borrower: &mut Borrower) {
+    run_touches(report);
+    for place in 0..3 {
+        let seen = sees(borrower, takes(), |outcome| outcome.numbers[place] ^= 1);
+        let name = format!("an altered number {place} of an answer is seen");
+        report.check(&name, seen);
+    }
+    let ladder = is_lent(borrower, takes(), 10);
+    report.check("a ladder is lent and looked at", ladder);
+    let target = is_lent(borrower, turnings(), 2);
+    report.check("a target is lent and looked at", target);
+    for watched in WATCHED {
+        for &place in watched.places {
+            let alter = |outcome: &mut Outcome| (watched.buffer)(outcome)[place] ^= 1;
+            let seen = sees(borrower, (watched.samples)(), alter);
+            let name = format!("an altered byte {place} of the {} is seen", watched.name);
+            report.check(&name, seen);
+        }
+    }
+}
+
+fn run_touches(report: &mut Report) {
     let each = |what: &str, lengths: &[usize], fatal: bool| {
         let mut lengths = lengths.iter();
         lengths.try_for_each(|&length| touch_ends(what, length, fatal))
@@ -161,27 +248,4 @@ pub fn run(report: &mut Report, borrower: &mut Borrower) {
     let inside = each("inside", &LENGTHS[1..], false);
     report.check("a touch inside a buffer is not", inside);
     report.check("a write beside a buffer is seen", margin_is_watched());
-    for place in 0..3 {
-        let name = format!("an altered number {place} of an answer is seen");
-        report.check(&name, sees(borrower, |outcome| outcome.numbers[place] ^= 1));
-    }
-    // The first and the last byte of hidden shares and refresh size, and the zeros
-    // behind the only order that rests.
-    for place in [0, 32, 35, 36, 39, 40, 119] {
-        let name = format!("an altered byte {place} of the book is seen");
-        report.check(&name, sees(borrower, |outcome| outcome.book[place] ^= 1));
-    }
-    // Bytes 2 and 3 are an execution's paragraph and the zero behind it.
-    for place in [0, 2, 3, 63, 79] {
-        let name = format!("an altered byte {place} of the executions is seen");
-        let outcome = sees(borrower, |outcome| outcome.executions[place] ^= 1);
-        report.check(&name, outcome);
-    }
-    report.check("a ladder is lent and looked at", ladder_is_lent(borrower));
-    // Row by row: the mark, a share, the count, a zero of a row, the zeros behind.
-    for place in [0, 8, 17, 23, 24, LADDER_LENGTH - 1] {
-        let name = format!("an altered byte {place} of the ladder is seen");
-        let outcome = sees(borrower, |outcome| outcome.ladder[place] ^= 1);
-        report.check(&name, outcome);
-    }
 }

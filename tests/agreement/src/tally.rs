@@ -1,5 +1,6 @@
 //! What occurred in a run, told from the calls' entries and outcomes.
 
+pub mod conversions;
 mod divisions;
 mod groups;
 mod ladders;
@@ -12,15 +13,15 @@ mod takes;
 
 use crate::calls::Call;
 use crate::compare::{Entry, Outcome};
-use crate::damage::DAMAGES;
 use crate::guarded;
 use crate::ladders::WRONG_LADDERS;
-use model::book::{self, Order, Side, LONGEST_BOOK, RECORD_LENGTH};
+use books::damage;
+use model::book::{self, Form, Order, Side, LONGEST_BOOK, MOST_ORDERS};
 use support::Coverage;
 use takes::Take;
 
 /// The calls and the refusals that each can have.
-const REFUSALS: [(&str, &[usize]); 9] = [
+const REFUSALS: [(&str, &[usize]); 11] = [
     ("check", &[2]),
     ("find", &[1, 2, 3]),
     ("add", &[1, 2, 4, 5, 6]),
@@ -30,6 +31,8 @@ const REFUSALS: [(&str, &[usize]); 9] = [
     ("add_ladder", &[1, 2, 9, 10, 4, 5, 6]),
     ("reduce_ladder", &[1, 2, 9, 10, 3, 7]),
     ("take_ladder", &[1, 2, 9, 10, 8]),
+    ("to_new", &[2, 12]),
+    ("to_old", &[2, 11, 12]),
 ];
 
 const OCCASIONS: [&str; 7] = [
@@ -56,7 +59,7 @@ pub fn expected() -> Coverage {
             coverage.expect(format!("{call}: refused {refusal}"));
         }
     }
-    for (damage, _) in DAMAGES {
+    for (damage, _) in damage::all(Form::New) {
         coverage.expect(refused_damage(damage));
     }
     for (wrong, refusal, _) in WRONG_LADDERS {
@@ -73,12 +76,18 @@ pub fn expected() -> Coverage {
     reserves::expect(&mut coverage);
     reserve_entries::expect(&mut coverage);
     ladders::expect(&mut coverage);
+    conversions::expect(&mut coverage);
     for call in ["take", "take_ladder"] {
         for pages in [FIRST_KEPT, LAST_KEPT, ALL_KEPT] {
             coverage.expect(kept(call, pages));
         }
     }
     coverage
+}
+
+fn refusals_of(call: Call) -> &'static [usize] {
+    let found = REFUSALS.iter().find(|(name, _)| *name == call.name());
+    found.map_or(&[], |(_, refusals)| refusals)
 }
 
 fn kept(call: &str, pages: &str) -> String {
@@ -102,6 +111,10 @@ pub fn note(coverage: &mut Coverage, entry: &Entry, outcome: &Outcome) {
             refusal => coverage.note(format!("{name}: refused {refusal}")),
         }
     }
+    if entry.call.is_turning() {
+        conversions::note(coverage, entry, outcome.refusal());
+        return;
+    }
     let has_ladder = entry.call.is_form() || entry.call == Call::Ladder;
     if outcome.refusal() != 0 {
         if has_ladder {
@@ -113,6 +126,11 @@ pub fn note(coverage: &mut Coverage, entry: &Entry, outcome: &Outcome) {
         }
         return;
     }
+    note_accepted(coverage, entry, outcome, has_ladder);
+}
+
+/// Notes an accepted call on a book, which may be lent a ladder.
+fn note_accepted(coverage: &mut Coverage, entry: &Entry, outcome: &Outcome, has_ladder: bool) {
     let before = book::read(&entry.book).expect("an accepted call has a sound book");
     let after = book::read(&outcome.book).expect("an accepted call leaves a sound book");
     note_book(coverage, entry, &before);
@@ -165,7 +183,7 @@ pub fn note_kept(coverage: &mut Coverage, entry: &Entry, outcome: &Outcome) {
 }
 
 fn note_book(coverage: &mut Coverage, entry: &Entry, orders: &[Order]) {
-    let full = orders.len() * RECORD_LENGTH == LONGEST_BOOK;
+    let full = orders.len() == MOST_ORDERS;
     let prices = |side: Side| {
         let orders = orders.iter().filter(move |order| order.side == side);
         orders.map(|order| order.price)

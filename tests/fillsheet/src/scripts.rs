@@ -41,9 +41,8 @@ const SPOILINGS: [(&str, Spoiling); 17] = [
     }),
     ("empty line", |_, _| Vec::new()),
     ("any bytes", |random, _| {
-        let mut bytes = vec![0; random.below(30)];
-        random.fill(&mut bytes);
-        bytes
+        let length = random.below(30);
+        random.bytes(length)
     }),
 ];
 

@@ -81,6 +81,9 @@ extern "C" {
         ladder_len: usize,
         request: TakeRequest,
     ) -> Taken;
+    fn ruhvasto_to_new(old: *const u8, old_len: usize, target: *mut u8, target_len: usize) -> u32;
+    fn ruhvasto_to_old(book: *const u8, book_len: usize, target: *mut u8, target_len: usize)
+        -> u32;
 }
 
 impl AddRequest {
@@ -212,4 +215,20 @@ pub fn take_ladder(
         )
     };
     taken.numbers()
+}
+
+/// An old book into the new form.
+#[inline]
+pub fn to_new(old: &[u8], target: &mut [u8]) -> Numbers {
+    let (start, length) = (old.as_ptr(), old.len());
+    // Safety: as above; the first slice is only read.
+    only(unsafe { ruhvasto_to_new(start, length, target.as_mut_ptr(), target.len()) })
+}
+
+/// A new book into the old form.
+#[inline]
+pub fn to_old(book: &[u8], target: &mut [u8]) -> Numbers {
+    let (start, length) = (book.as_ptr(), book.len());
+    // Safety: as above.
+    only(unsafe { ruhvasto_to_old(start, length, target.as_mut_ptr(), target.len()) })
 }

@@ -57,6 +57,13 @@ impl Random {
         unreachable!("a number below the sum falls to one of the weights")
     }
 
+    /// So many bytes.
+    pub fn bytes(&mut self, length: usize) -> Vec<u8> {
+        let mut bytes = vec![0; length];
+        self.fill(&mut bytes);
+        bytes
+    }
+
     pub fn fill(&mut self, bytes: &mut [u8]) {
         for eight in bytes.chunks_mut(8) {
             let drawn = self.draw().to_le_bytes();

@@ -3,10 +3,8 @@
 
 use super::takes::Take;
 use crate::compare::Entry;
-use model::book::{Order, LONGEST_BOOK, RECORD_LENGTH};
+use model::book::{Order, MOST_ORDERS, RECORD_LENGTH};
 use support::Coverage;
-
-const MOST_ORDERS: usize = LONGEST_BOOK / RECORD_LENGTH;
 
 /// The books that are told apart.
 const FULL: &str = "256 orders";

@@ -1,6 +1,6 @@
 //! What the orders of random books look like, and the making of sound books.
 
-use model::book::{self, Kind, Order, Side, HIGHEST_PRICE, LARGEST_SIZE, RECORD_LENGTH};
+use model::book::{self, Form, Kind, Order, Side, HIGHEST_PRICE, LARGEST_SIZE, RECORD_LENGTH};
 use support::Random;
 
 /// Levels of a side in a book that has a price for each order; prime to the
@@ -84,6 +84,15 @@ impl Shape {
             lowest: random.one_of(&[1, 100_000, highest]),
             step,
         }
+    }
+
+    /// A shape of the kinds that this form can tell, the rest by chance.
+    pub fn in_form(random: &mut Random, form: Form) -> Shape {
+        let kinds = match form {
+            Form::Old => [1, 1, 1, 0],
+            Form::New => [4, 4, 4, 1],
+        };
+        Shape::random(random, kinds)
     }
 
     pub fn price(&self, random: &mut Random) -> u32 {

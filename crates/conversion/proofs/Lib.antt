@@ -1,0 +1,9 @@
+pub mod Widths
+pub mod Plainness
+pub mod Turned
+pub mod Filling
+pub mod OldBooks
+pub mod Refused
+pub mod Accepted
+pub mod Answering
+pub mod RoundTrips

@@ -1,0 +1,4 @@
+pub mod Conversion
+pub mod RoundTrip
+pub mod Plain
+pub mod Examples

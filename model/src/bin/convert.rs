@@ -1,0 +1,5 @@
+//! The convert of the model, from standard input to standard output.
+
+fn main() -> std::io::Result<()> {
+    model::from_input_to_output(model::convert)
+}
