@@ -6,7 +6,7 @@
 /* Whether a struct's field of this name lies at this byte. */
 #define AT(type, field, byte) _Static_assert(offsetof(type, field) == (byte), #field " of " #type)
 
-_Static_assert(sizeof(ruhvasto_add_request) == 32, "size of ruhvasto_add_request");
+_Static_assert(sizeof(ruhvasto_add_request) == 36, "size of ruhvasto_add_request");
 AT(ruhvasto_add_request, side, 0);
 AT(ruhvasto_add_request, kind, 4);
 AT(ruhvasto_add_request, number, 8);
@@ -15,11 +15,13 @@ AT(ruhvasto_add_request, size, 16);
 AT(ruhvasto_add_request, minimum, 20);
 AT(ruhvasto_add_request, hidden, 24);
 AT(ruhvasto_add_request, refresh, 28);
-_Static_assert(sizeof(ruhvasto_take_request) == 16, "size of ruhvasto_take_request");
+AT(ruhvasto_add_request, security, 32);
+_Static_assert(sizeof(ruhvasto_take_request) == 20, "size of ruhvasto_take_request");
 AT(ruhvasto_take_request, side, 0);
 AT(ruhvasto_take_request, limit, 4);
 AT(ruhvasto_take_request, size, 8);
 AT(ruhvasto_take_request, algorithm, 12);
+AT(ruhvasto_take_request, security, 16);
 _Static_assert(sizeof(ruhvasto_checked) == 8, "size of ruhvasto_checked");
 AT(ruhvasto_checked, refusal, 0);
 AT(ruhvasto_checked, orders, 4);
@@ -31,7 +33,7 @@ _Static_assert(sizeof(ruhvasto_taken) == 12, "size of ruhvasto_taken");
 AT(ruhvasto_taken, refusal, 0);
 AT(ruhvasto_taken, count, 4);
 AT(ruhvasto_taken, left, 8);
-_Static_assert(sizeof(ruhvasto_order) == 36, "size of ruhvasto_order");
+_Static_assert(sizeof(ruhvasto_order) == 40, "size of ruhvasto_order");
 AT(ruhvasto_order, side, 0);
 AT(ruhvasto_order, kind, 4);
 AT(ruhvasto_order, number, 8);
@@ -41,6 +43,7 @@ AT(ruhvasto_order, minimum, 20);
 AT(ruhvasto_order, setter, 24);
 AT(ruhvasto_order, hidden, 28);
 AT(ruhvasto_order, refresh, 32);
+AT(ruhvasto_order, security, 36);
 _Static_assert(sizeof(ruhvasto_execution) == 16, "size of ruhvasto_execution");
 AT(ruhvasto_execution, number, 0);
 AT(ruhvasto_execution, price, 4);
@@ -144,17 +147,17 @@ static void fill(void)
 static void lengths(void)
 {
     clear();
-    EXPECT(ruhvasto_check(book, 0).refusal == RUHVASTO_ACCEPTED);
-    EXPECT(ruhvasto_check(book, RUHVASTO_BOOK_BYTES).refusal == RUHVASTO_ACCEPTED);
-    EXPECT(ruhvasto_check(book, RUHVASTO_BOOK_BYTES + RUHVASTO_RECORD_BYTES).refusal == RUHVASTO_UNSOUND_BOOK);
-    EXPECT(ruhvasto_check(book, RUHVASTO_RECORD_BYTES - 1).refusal == RUHVASTO_UNSOUND_BOOK);
+    EXPECT(ruhvasto_check(book, 0, 0).refusal == RUHVASTO_ACCEPTED);
+    EXPECT(ruhvasto_check(book, RUHVASTO_BOOK_BYTES, 0).refusal == RUHVASTO_ACCEPTED);
+    EXPECT(ruhvasto_check(book, RUHVASTO_BOOK_BYTES + RUHVASTO_RECORD_BYTES, 0).refusal == RUHVASTO_UNSOUND_BOOK);
+    EXPECT(ruhvasto_check(book, RUHVASTO_RECORD_BYTES - 1, 0).refusal == RUHVASTO_UNSOUND_BOOK);
     EXPECT(add_sell(0, 1, 100) == RUHVASTO_BOOK_FULL);
     fill();
-    EXPECT(ruhvasto_check(book, RUHVASTO_BOOK_BYTES).orders == RUHVASTO_BOOK_ORDERS);
+    EXPECT(ruhvasto_check(book, RUHVASTO_BOOK_BYTES, 0).orders == RUHVASTO_BOOK_ORDERS);
     EXPECT(add_sell(RUHVASTO_BOOK_BYTES, RUHVASTO_BOOK_ORDERS + 1, 100) == RUHVASTO_BOOK_FULL);
     ruhvasto_taken taken = take_from(RUHVASTO_BOOK_BYTES, RUHVASTO_EXECUTIONS_BYTES, RUHVASTO_SIZE_MOST, RUHVASTO_PRO_RATA);
     EXPECT(taken.count == RUHVASTO_BOOK_ORDERS && taken.left == RUHVASTO_SIZE_MOST - RUHVASTO_BOOK_ORDERS * 100);
-    EXPECT(ruhvasto_check(book, RUHVASTO_BOOK_BYTES).orders == 0);
+    EXPECT(ruhvasto_check(book, RUHVASTO_BOOK_BYTES, 0).orders == 0);
 }
 
 static void layouts(void)
@@ -227,19 +230,19 @@ static void refusals(void)
     clear();
     add_sell(book_len, 5, 100);
     add_sell(book_len, 7, 100);
-    ruhvasto_found found = ruhvasto_find(book, book_len, 7);
+    ruhvasto_found found = ruhvasto_find(book, book_len, 0, 7);
     EXPECT(found.refusal == RUHVASTO_ACCEPTED && found.start == RUHVASTO_RECORD_BYTES && found.length == RUHVASTO_RECORD_BYTES);
-    found = ruhvasto_find(book, book_len, 6);
+    found = ruhvasto_find(book, book_len, 0, 6);
     EXPECT(found.refusal == RUHVASTO_UNKNOWN_NUMBER && found.start == 0 && found.length == 0);
-    EXPECT(ruhvasto_find(book, book_len, 0).refusal == RUHVASTO_OUT_OF_RANGE);
-    EXPECT(ruhvasto_reduce(book, book_len, 6, 1) == RUHVASTO_UNKNOWN_NUMBER);
-    EXPECT(ruhvasto_reduce(book, book_len, 7, 101) == RUHVASTO_TOO_MANY_SHARES);
+    EXPECT(ruhvasto_find(book, book_len, 0, 0).refusal == RUHVASTO_OUT_OF_RANGE);
+    EXPECT(ruhvasto_reduce(book, book_len, 0, 6, 1) == RUHVASTO_UNKNOWN_NUMBER);
+    EXPECT(ruhvasto_reduce(book, book_len, 0, 7, 101) == RUHVASTO_TOO_MANY_SHARES);
     EXPECT(add_sell(book_len, 7, 100) == RUHVASTO_STALE_NUMBER);
     EXPECT(add_displayed(book_len, RUHVASTO_BUY, 8, 1) == RUHVASTO_COULD_TRADE);
-    EXPECT(ruhvasto_reduce(book, book_len, 5, 100) == RUHVASTO_ACCEPTED);
-    EXPECT(ruhvasto_check(book, book_len).orders == 1 && ruhvasto_order_at(book).number == 7);
+    EXPECT(ruhvasto_reduce(book, book_len, 0, 5, 100) == RUHVASTO_ACCEPTED);
+    EXPECT(ruhvasto_check(book, book_len, 0).orders == 1 && ruhvasto_order_at(book).number == 7);
     book[book_len - 1] = 1;
-    EXPECT(ruhvasto_reduce(book, book_len, 7, 1) == RUHVASTO_UNSOUND_BOOK);
+    EXPECT(ruhvasto_reduce(book, book_len, 0, 7, 1) == RUHVASTO_UNSOUND_BOOK);
 }
 
 /* The words of each refusal number in turn, and of numbers that no refusal has. */
@@ -277,8 +280,8 @@ static void used_again(void)
     clear();
     add_sell(book_len, 5, 100);
     add_sell(book_len, 7, 100);
-    EXPECT(ruhvasto_reduce(book, book_len, 5, 100) == RUHVASTO_ACCEPTED && add_sell(book_len, 5, 100) == RUHVASTO_STALE_NUMBER);
-    EXPECT(ruhvasto_reduce(book, book_len, 7, 100) == RUHVASTO_ACCEPTED && add_sell(book_len, 5, 100) == RUHVASTO_ACCEPTED);
+    EXPECT(ruhvasto_reduce(book, book_len, 0, 5, 100) == RUHVASTO_ACCEPTED && add_sell(book_len, 5, 100) == RUHVASTO_STALE_NUMBER);
+    EXPECT(ruhvasto_reduce(book, book_len, 0, 7, 100) == RUHVASTO_ACCEPTED && add_sell(book_len, 5, 100) == RUHVASTO_ACCEPTED);
 }
 
 /* What a take leaves can be added at its limit, beside an order whose minimum it didn't meet; one share more could trade. */
@@ -326,7 +329,7 @@ static int unchanged(void)
 
 static uint32_t make(size_t book_len, size_t ladder_len)
 {
-    return ruhvasto_ladder(book, book_len, ladder, ladder_len);
+    return ruhvasto_ladder(book, book_len, ladder, ladder_len, 0);
 }
 
 static uint32_t add_kept(size_t ladder_len, uint32_t side, uint32_t kind, uint32_t number, uint32_t price, uint32_t size, uint32_t minimum)
@@ -337,7 +340,7 @@ static uint32_t add_kept(size_t ladder_len, uint32_t side, uint32_t kind, uint32
 
 static uint32_t reduce_kept(size_t ladder_len, uint32_t number, uint32_t shares)
 {
-    return ruhvasto_reduce_ladder(book, KEPT, ladder, ladder_len, number, shares);
+    return ruhvasto_reduce_ladder(book, KEPT, ladder, ladder_len, 0, number, shares);
 }
 
 static ruhvasto_taken take_kept(size_t ladder_len, size_t executions_len, uint32_t side, uint32_t limit, uint32_t size)
@@ -432,7 +435,7 @@ static void full_ladder(void)
     fill();
     EXPECT(make(RUHVASTO_BOOK_BYTES, RUHVASTO_LADDER_BYTES) == RUHVASTO_ACCEPTED);
     EXPECT(has_rows(ROWS({ RUHVASTO_SELL, 100000, 25600, 0, 256 })) && ladder[16] == 0x00 && ladder[17] == 0x01);
-    EXPECT(ruhvasto_reduce_ladder(book, RUHVASTO_BOOK_BYTES, ladder, RUHVASTO_LADDER_BYTES, 7, 100) == RUHVASTO_ACCEPTED);
+    EXPECT(ruhvasto_reduce_ladder(book, RUHVASTO_BOOK_BYTES, ladder, RUHVASTO_LADDER_BYTES, 0, 7, 100) == RUHVASTO_ACCEPTED);
     EXPECT(has_rows(ROWS({ RUHVASTO_SELL, 100000, 25500, 0, 255 })) && ladder[16] == 0xff && ladder[17] == 0x00);
     clear();
     memset(ladder, 0, RUHVASTO_LADDER_BYTES);
@@ -553,7 +556,7 @@ static void other_ladders(void)
         EXPECT(unchanged());
     }
     /* The ladder of another book, though that book was this one's before a plain call. */
-    EXPECT(ruhvasto_reduce(book, KEPT, 1, 1) == RUHVASTO_ACCEPTED);
+    EXPECT(ruhvasto_reduce(book, KEPT, 0, 1, 1) == RUHVASTO_ACCEPTED);
     for (int which = 1; which < 4; which++)
         EXPECT(call(which, len) == RUHVASTO_OTHER_LADDER);
     EXPECT(make(KEPT, len) == RUHVASTO_ACCEPTED && call(2, len) == RUHVASTO_ACCEPTED);
@@ -682,36 +685,36 @@ static void reserve_records(void)
                 const ruhvasto_order o = ruhvasto_order_at(book);
                 const int sound = reserve ? o.hidden <= RUHVASTO_SIZE_MOST && o.refresh >= 1 && o.refresh <= RUHVASTO_SIZE_MOST
                                           : value == 0;
-                agree += ruhvasto_check(book, KEPT).refusal == (sound ? RUHVASTO_ACCEPTED : RUHVASTO_UNSOUND_BOOK);
+                agree += ruhvasto_check(book, KEPT, 0).refusal == (sound ? RUHVASTO_ACCEPTED : RUHVASTO_UNSOUND_BOOK);
             }
             EXPECT(agree == 256);
             book[at] = right;
         }
-        for (size_t at = 21; at < 32; at++) {
+        for (size_t at = 22; at < 32; at++) {
             book[at] = 1;
-            EXPECT(ruhvasto_check(book, KEPT).refusal == RUHVASTO_UNSOUND_BOOK);
+            EXPECT(ruhvasto_check(book, KEPT, 0).refusal == RUHVASTO_UNSOUND_BOOK);
             book[at] = 0;
         }
         book[20] = 1;
-        EXPECT((ruhvasto_check(book, KEPT).refusal == RUHVASTO_ACCEPTED) == (reserve || every[i].kind == RUHVASTO_DISPLAYED));
+        EXPECT((ruhvasto_check(book, KEPT, 0).refusal == RUHVASTO_ACCEPTED) == (reserve || every[i].kind == RUHVASTO_DISPLAYED));
         book[20] = 2;
-        EXPECT(ruhvasto_check(book, KEPT).refusal == RUHVASTO_UNSOUND_BOOK);
+        EXPECT(ruhvasto_check(book, KEPT, 0).refusal == RUHVASTO_UNSOUND_BOOK);
     }
     /* The last is a reserve order. It shows as much as it likes, beside any refresh size; has no minimum; and kind 5 is none. */
     book[20] = 1;
     put(book + 36, 1, 4);
-    EXPECT(ruhvasto_check(book, KEPT).orders == 1);
+    EXPECT(ruhvasto_check(book, KEPT, 0).orders == 1);
     put(book + 36, RUHVASTO_SIZE_MOST, 4);
-    EXPECT(ruhvasto_check(book, KEPT).orders == 1);
+    EXPECT(ruhvasto_check(book, KEPT, 0).orders == 1);
     put(book + 12, 0, 4);
-    EXPECT(ruhvasto_check(book, KEPT).refusal == RUHVASTO_UNSOUND_BOOK);
+    EXPECT(ruhvasto_check(book, KEPT, 0).refusal == RUHVASTO_UNSOUND_BOOK);
     put(book + 12, 500, 4);
     book[16] = 1;
-    EXPECT(ruhvasto_check(book, KEPT).refusal == RUHVASTO_UNSOUND_BOOK);
+    EXPECT(ruhvasto_check(book, KEPT, 0).refusal == RUHVASTO_UNSOUND_BOOK);
     book[16] = 0;
-    EXPECT(ruhvasto_check(book, KEPT).orders == 1);
+    EXPECT(ruhvasto_check(book, KEPT, 0).orders == 1);
     book[3] = RUHVASTO_RESERVE + 1;
-    EXPECT(ruhvasto_check(book, KEPT).refusal == RUHVASTO_UNSOUND_BOOK);
+    EXPECT(ruhvasto_check(book, KEPT, 0).refusal == RUHVASTO_UNSOUND_BOOK);
 }
 
 /* No call but the conversions takes a book as it was up to version 5, with records of 32 bytes and another mark. */
@@ -720,16 +723,16 @@ static void older_records(void)
     clear();
     EXPECT(put_in(RUHVASTO_RECORD_BYTES, (ruhvasto_add_request)D(1, 500)) == RUHVASTO_ACCEPTED);
     book[1] = 0x42;
-    EXPECT(ruhvasto_check(book, RUHVASTO_RECORD_BYTES).refusal == RUHVASTO_UNSOUND_BOOK);
-    EXPECT(ruhvasto_check(book, 32).refusal == RUHVASTO_UNSOUND_BOOK);
+    EXPECT(ruhvasto_check(book, RUHVASTO_RECORD_BYTES, 0).refusal == RUHVASTO_UNSOUND_BOOK);
+    EXPECT(ruhvasto_check(book, 32, 0).refusal == RUHVASTO_UNSOUND_BOOK);
     for (uint32_t i = 1; i < 5; i++) {
         memcpy(book + 32 * i, book, 32);
         put(book + 32 * i + 4, i + 1, 4);
     }
-    EXPECT(ruhvasto_check(book, 5 * 32).refusal == RUHVASTO_UNSOUND_BOOK);
+    EXPECT(ruhvasto_check(book, 5 * 32, 0).refusal == RUHVASTO_UNSOUND_BOOK);
     clear();
-    EXPECT(ruhvasto_check(book, 256 * 32).refusal == RUHVASTO_UNSOUND_BOOK);
-    EXPECT(ruhvasto_check(book, 5 * 32).refusal == RUHVASTO_ACCEPTED);
+    EXPECT(ruhvasto_check(book, 256 * 32, 0).refusal == RUHVASTO_UNSOUND_BOOK);
+    EXPECT(ruhvasto_check(book, 5 * 32, 0).refusal == RUHVASTO_ACCEPTED);
 }
 
 /* Books of sells at one price, a buy at that price, its executions, and what still rests. What isn't filled in is zero and ends a list. */
@@ -791,7 +794,7 @@ static void reserve_cases(void)
             EXPECT(has_parts(orders, cases[i].resting[orders].shown, cases[i].resting[orders].hidden));
             EXPECT(same_order(ruhvasto_order_in(book, orders), added[cases[i].resting[orders].number]));
         }
-        EXPECT(ruhvasto_check(book, KEPT).orders == orders);
+        EXPECT(ruhvasto_check(book, KEPT, 0).orders == orders);
         /* The ladder is the new book's. */
         remember();
         EXPECT(make(KEPT, RUHVASTO_LADDER_BYTES) == RUHVASTO_ACCEPTED && unchanged());
@@ -820,18 +823,18 @@ static void reserve_reduced(void)
     EXPECT(put_in(KEPT, (ruhvasto_add_request)R(1, 100, 50)) == RUHVASTO_ACCEPTED);
     EXPECT(put_in(KEPT, (ruhvasto_add_request)R(2, most, most)) == RUHVASTO_ACCEPTED);
     remember();
-    EXPECT(ruhvasto_reduce(book, KEPT, 1, 151) == RUHVASTO_TOO_MANY_SHARES && same_book());
-    EXPECT(ruhvasto_reduce(book, KEPT, 1, 49) == RUHVASTO_ACCEPTED && has_parts(0, 100, 1));
-    EXPECT(ruhvasto_reduce(book, KEPT, 1, 31) == RUHVASTO_ACCEPTED && has_parts(0, 70, 0));
-    EXPECT(ruhvasto_reduce(book, KEPT, 1, 71) == RUHVASTO_TOO_MANY_SHARES && has_parts(0, 70, 0));
+    EXPECT(ruhvasto_reduce(book, KEPT, 0, 1, 151) == RUHVASTO_TOO_MANY_SHARES && same_book());
+    EXPECT(ruhvasto_reduce(book, KEPT, 0, 1, 49) == RUHVASTO_ACCEPTED && has_parts(0, 100, 1));
+    EXPECT(ruhvasto_reduce(book, KEPT, 0, 1, 31) == RUHVASTO_ACCEPTED && has_parts(0, 70, 0));
+    EXPECT(ruhvasto_reduce(book, KEPT, 0, 1, 71) == RUHVASTO_TOO_MANY_SHARES && has_parts(0, 70, 0));
     EXPECT(ruhvasto_order_in(book, 0).refresh == 100 && ruhvasto_order_in(book, 0).setter == 1);
-    EXPECT(ruhvasto_reduce(book, KEPT, 1, 70) == RUHVASTO_ACCEPTED && ruhvasto_order_in(book, 0).number == 2);
-    EXPECT(ruhvasto_reduce(book, KEPT, 2, most + 1) == RUHVASTO_OUT_OF_RANGE && has_parts(0, most, most));
-    EXPECT(ruhvasto_reduce(book, KEPT, 2, most) == RUHVASTO_ACCEPTED && has_parts(0, most, 0));
-    EXPECT(ruhvasto_reduce(book, KEPT, 2, most) == RUHVASTO_ACCEPTED && ruhvasto_check(book, KEPT).orders == 0);
+    EXPECT(ruhvasto_reduce(book, KEPT, 0, 1, 70) == RUHVASTO_ACCEPTED && ruhvasto_order_in(book, 0).number == 2);
+    EXPECT(ruhvasto_reduce(book, KEPT, 0, 2, most + 1) == RUHVASTO_OUT_OF_RANGE && has_parts(0, most, most));
+    EXPECT(ruhvasto_reduce(book, KEPT, 0, 2, most) == RUHVASTO_ACCEPTED && has_parts(0, most, 0));
+    EXPECT(ruhvasto_reduce(book, KEPT, 0, 2, most) == RUHVASTO_ACCEPTED && ruhvasto_check(book, KEPT, 0).orders == 0);
     clear();
     EXPECT(put_in(KEPT, (ruhvasto_add_request)R(1, 100, 50)) == RUHVASTO_ACCEPTED);
-    EXPECT(ruhvasto_reduce(book, KEPT, 1, 150) == RUHVASTO_ACCEPTED && ruhvasto_check(book, KEPT).orders == 0);
+    EXPECT(ruhvasto_reduce(book, KEPT, 0, 1, 150) == RUHVASTO_ACCEPTED && ruhvasto_check(book, KEPT, 0).orders == 0);
 }
 
 /* Refusal 5: a new reserve order counts with all its shares, a resting one always. The mark: what is shown alone. */
@@ -893,7 +896,7 @@ static void most_executions(void)
             right += execution.number == i % RUHVASTO_BOOK_ORDERS + 1 && execution.shares == (shown ? 100u : 200u)
                 && execution.paragraph == (shown ? 2 : hidden_paragraph);
         }
-        EXPECT(right == 2 * RUHVASTO_BOOK_ORDERS && ruhvasto_check(book, RUHVASTO_BOOK_BYTES).orders == 0);
+        EXPECT(right == 2 * RUHVASTO_BOOK_ORDERS && ruhvasto_check(book, RUHVASTO_BOOK_BYTES, 0).orders == 0);
     }
 }
 
@@ -915,7 +918,7 @@ enum { OLD_ORDERS = sizeof old_orders / sizeof *old_orders };
 static void make_old(void)
 {
     memset(old_memory, 0, sizeof old_memory);
-    for (size_t i = 0; i < ruhvasto_check(book, RUHVASTO_BOOK_BYTES).orders; i++) {
+    for (size_t i = 0; i < ruhvasto_check(book, RUHVASTO_BOOK_BYTES, 0).orders; i++) {
         memcpy(old + i * RUHVASTO_OLD_RECORD_BYTES, book + i * RUHVASTO_RECORD_BYTES, RUHVASTO_OLD_RECORD_BYTES);
         old[i * RUHVASTO_OLD_RECORD_BYTES + 1] = 0x42;
     }
@@ -933,7 +936,7 @@ static void enter_old_orders(size_t count)
 /* Whether the target has the orders of the book, in records of this width with this mark, and zeros up to this length; and nothing beyond. */
 static int is_turned(size_t width, uint8_t mark, size_t length)
 {
-    const size_t orders = ruhvasto_check(book, RUHVASTO_BOOK_BYTES).orders;
+    const size_t orders = ruhvasto_check(book, RUHVASTO_BOOK_BYTES, 0).orders;
     int holds = target_memory[0] == 0xee && target[length] == 0xee;
     for (size_t i = 0; i < orders; i++) {
         const uint8_t *record = target + i * width;
@@ -986,7 +989,7 @@ static void turned(void)
     EXPECT(memcmp(old, records, sizeof records) == 0);
     EXPECT(to_old(new_len, old_len) == RUHVASTO_ACCEPTED && memcmp(target, records, sizeof records) == 0);
     EXPECT(to_new(old_len, new_len) == RUHVASTO_ACCEPTED && memcmp(target, book, new_len) == 0);
-    EXPECT(ruhvasto_check(target, new_len).orders == OLD_ORDERS && ruhvasto_order_in(target, 0).setter == 1);
+    EXPECT(ruhvasto_check(target, new_len, 0).orders == OLD_ORDERS && ruhvasto_order_in(target, 0).setter == 1);
     /* By way of a target of another capacity, back to the same bytes. */
     EXPECT(to_new(5 * RUHVASTO_OLD_RECORD_BYTES, RUHVASTO_BOOK_BYTES) == RUHVASTO_ACCEPTED);
     memcpy(book, target, RUHVASTO_BOOK_BYTES);
@@ -1038,8 +1041,9 @@ static void target_lengths(void)
     EXPECT(to_old(RUHVASTO_BOOK_BYTES, RUHVASTO_OLD_BOOK_BYTES + RUHVASTO_OLD_RECORD_BYTES) == RUHVASTO_UNFIT_TARGET);
 }
 
-/* A record of the old form, each byte with each value: sound exactly if it has the mark, is of the first three kinds, and would be sound
- * with the new mark and eight zeros more. And what makes an old book unsound that has sound records. */
+/* A record of the old form, each byte with each value: sound exactly if it has the mark, is of the first three kinds, has a zero where the
+ * new form has the security, and would be sound with the new mark and eight zeros more. And what makes an old book unsound that has sound
+ * records. */
 static void old_soundness(void)
 {
     const size_t old_len = OLD_ORDERS * RUHVASTO_OLD_RECORD_BYTES;
@@ -1055,8 +1059,8 @@ static void old_soundness(void)
                 record[1] = 0x42;
                 record[at] = (uint8_t)value;
                 book[at] = at == 1 ? 0x43 : (uint8_t)value;
-                const int sound = record[0] == 0x4f && record[1] == 0x42 && record[3] <= RUHVASTO_MINIMUM_QUANTITY
-                    && ruhvasto_check(book, RUHVASTO_RECORD_BYTES).refusal == RUHVASTO_ACCEPTED;
+                const int sound = record[0] == 0x4f && record[1] == 0x42 && record[3] <= RUHVASTO_MINIMUM_QUANTITY && record[21] == 0
+                    && ruhvasto_check(book, RUHVASTO_RECORD_BYTES, 0).refusal == RUHVASTO_ACCEPTED;
                 agree += ruhvasto_to_new(record, sizeof record, written, sizeof written)
                     == (sound ? RUHVASTO_ACCEPTED : RUHVASTO_UNSOUND_BOOK);
                 book[at] = right;
@@ -1093,9 +1097,15 @@ static void conversion_refusals(void)
             }
             EXPECT(to_old(new_len, old_len) == RUHVASTO_NO_OLD_FORM && to_old(new_len, old_len - 1) == RUHVASTO_NO_OLD_FORM);
             EXPECT(to_old(new_len, 0) == RUHVASTO_NO_OLD_FORM && to_old(new_len, RUHVASTO_BOOK_BYTES) == RUHVASTO_NO_OLD_FORM);
-            book[21] = 1;
+            book[22] = 1;
             EXPECT(to_old(new_len, old_len) == RUHVASTO_UNSOUND_BOOK && to_old(new_len, 0) == RUHVASTO_UNSOUND_BOOK);
         }
+        /* Nor has an order of security 1, of whatever kind. */
+        enter_old_orders(OLD_ORDERS);
+        book[place * RUHVASTO_RECORD_BYTES + 21] = 1;
+        EXPECT(to_old(new_len, old_len) == RUHVASTO_NO_OLD_FORM && to_old(new_len, old_len - 1) == RUHVASTO_NO_OLD_FORM);
+        book[place * RUHVASTO_RECORD_BYTES + 21] = 2;
+        EXPECT(to_old(new_len, old_len) == RUHVASTO_UNSOUND_BOOK && to_old(new_len, 0) == RUHVASTO_UNSOUND_BOOK);
     }
     static const size_t places[] = { 0, 1, 2, 3, 21, 31 };
     for (size_t i = 0; i < sizeof places / sizeof *places; i++) {
@@ -1104,6 +1114,226 @@ static void conversion_refusals(void)
         EXPECT(to_new(old_len, new_len) == RUHVASTO_UNSOUND_BOOK && to_new(old_len, new_len - 1) == RUHVASTO_UNSOUND_BOOK);
         EXPECT(to_new(old_len, 0) == RUHVASTO_UNSOUND_BOOK);
     }
+}
+
+/* TWO SECURITIES. The same order, of security 1. */
+static ruhvasto_add_request of_one(ruhvasto_add_request request)
+{
+    request.security = 1;
+    return request;
+}
+
+/* The nine calls that name a security, each with all else in order for the book of keep and its ladder. */
+enum { NAMING = 9 };
+static uint32_t call_for(int which, uint32_t security)
+{
+    const size_t len = RUHVASTO_LADDER_BYTES;
+    const ruhvasto_add_request sell = { SELL(DISPLAYED, 7, 10), .security = security };
+    const ruhvasto_take_request buy = {
+        .side = RUHVASTO_BUY, .limit = 100100, .size = 450, .algorithm = RUHVASTO_PRO_RATA, .security = security };
+    switch (which) {
+    case 0: return ruhvasto_check(book, KEPT, security).refusal;
+    case 1: return ruhvasto_find(book, KEPT, security, 1).refusal;
+    case 2: return ruhvasto_add(book, KEPT, sell);
+    case 3: return ruhvasto_reduce(book, KEPT, security, 1, 1);
+    case 4: return ruhvasto_take(book, KEPT, executions, sizeof executions, buy).refusal;
+    case 5: return ruhvasto_ladder(book, KEPT, ladder, len, security);
+    case 6: return ruhvasto_add_ladder(book, KEPT, ladder, len, sell);
+    case 7: return ruhvasto_reduce_ladder(book, KEPT, ladder, len, security, 1, 1);
+    default: return ruhvasto_take_ladder(book, KEPT, executions, sizeof executions, ladder, len, buy).refusal;
+    }
+}
+
+/* Another security is refused 1, whatever else is wrong, and nothing changes; the same calls for security 0 are accepted. */
+static void security_ranges(void)
+{
+    for (int which = 0; which < NAMING; which++) {
+        keep();
+        for (int damaged = 0; damaged < 2; damaged++) {
+            book[0] ^= (uint8_t)damaged;
+            remember();
+            EXPECT(call_for(which, RUHVASTO_SECURITIES) == RUHVASTO_OUT_OF_RANGE && call_for(which, 256) == RUHVASTO_OUT_OF_RANGE);
+            EXPECT(call_for(which, UINT32_MAX) == RUHVASTO_OUT_OF_RANGE && unchanged());
+        }
+        EXPECT(call_for(which, 0) == RUHVASTO_UNSOUND_BOOK && call_for(which, 1) == RUHVASTO_UNSOUND_BOOK && unchanged());
+        keep();
+        EXPECT(call_for(which, 0) == RUHVASTO_ACCEPTED);
+    }
+    keep();
+    const ruhvasto_found found = ruhvasto_find(book, KEPT, RUHVASTO_SECURITIES, 1);
+    EXPECT(ruhvasto_check(book, KEPT, RUHVASTO_SECURITIES).orders == 0 && found.start == 0 && found.length == 0);
+}
+
+/* Byte 21 with every value, in a record of each kind; and what a request that doesn't name the field gives. */
+static void security_records(void)
+{
+    static const ruhvasto_add_request every[] = { D(1, 500), H(1, 500), M(1, 500, 300), R(1, 500, 70) };
+    for (size_t i = 0; i < sizeof every / sizeof *every; i++) {
+        clear();
+        EXPECT(put_in(KEPT, every[i]) == RUHVASTO_ACCEPTED && book[21] == 0 && ruhvasto_order_at(book).security == 0);
+        clear();
+        EXPECT(put_in(KEPT, of_one(every[i])) == RUHVASTO_ACCEPTED && book[21] == 1 && ruhvasto_order_at(book).security == 1);
+        EXPECT(ruhvasto_order_at(book).setter == (every[i].kind == RUHVASTO_DISPLAYED || every[i].kind == RUHVASTO_RESERVE));
+        uint32_t agree = 0;
+        for (uint32_t value = 0; value < 256; value++) {
+            book[21] = (uint8_t)value;
+            for (uint32_t security = 0; security < RUHVASTO_SECURITIES; security++) {
+                const ruhvasto_checked checked = ruhvasto_check(book, KEPT, security);
+                agree += checked.refusal == (value < RUHVASTO_SECURITIES ? RUHVASTO_ACCEPTED : RUHVASTO_UNSOUND_BOOK)
+                    && checked.orders == (value == security);
+            }
+        }
+        EXPECT(agree == 256 * RUHVASTO_SECURITIES);
+    }
+}
+
+/* Setter marks, one of each security at a side and price; and refusal 5, by the new order's security alone. */
+static void security_marks(void)
+{
+    clear();
+    EXPECT(put_in(KEPT, (ruhvasto_add_request)D(1, 500)) == RUHVASTO_ACCEPTED && ruhvasto_order_in(book, 0).setter == 1);
+    EXPECT(put_in(KEPT, of_one((ruhvasto_add_request)D(2, 500))) == RUHVASTO_ACCEPTED && ruhvasto_order_in(book, 1).setter == 1);
+    EXPECT(put_in(KEPT, of_one((ruhvasto_add_request)D(3, 500))) == RUHVASTO_ACCEPTED && ruhvasto_order_in(book, 2).setter == 0);
+    book[2 * RUHVASTO_RECORD_BYTES + 20] = 1;
+    EXPECT(ruhvasto_check(book, KEPT, 0).refusal == RUHVASTO_UNSOUND_BOOK && ruhvasto_check(book, KEPT, 1).refusal == RUHVASTO_UNSOUND_BOOK);
+    book[2 * RUHVASTO_RECORD_BYTES + 21] = 0;
+    EXPECT(ruhvasto_check(book, KEPT, 1).refusal == RUHVASTO_UNSOUND_BOOK);
+    clear();
+    /* A better price of the other security is in no order's way, and a buy above its sells could trade with none of them. */
+    ruhvasto_add_request better = D(1, 500);
+    better.price = 99000;
+    EXPECT(put_in(KEPT, better) == RUHVASTO_ACCEPTED);
+    EXPECT(put_in(KEPT, of_one((ruhvasto_add_request)D(2, 500))) == RUHVASTO_ACCEPTED && ruhvasto_order_in(book, 1).setter == 1);
+    better.number = 3;
+    EXPECT(put_in(KEPT, of_one(as_buy(better))) == RUHVASTO_ACCEPTED && ruhvasto_order_in(book, 2).setter == 1);
+    better.number = 4;
+    remember();
+    EXPECT(put_in(KEPT, as_buy(better)) == RUHVASTO_COULD_TRADE && same_book());
+}
+
+/* Refusals 4 and 6 look at the orders of both, and so do the header's functions that count them. */
+static void whole_book(void)
+{
+    clear();
+    EXPECT(put_in(RUHVASTO_BOOK_BYTES, of_one((ruhvasto_add_request)D(9, 100))) == RUHVASTO_ACCEPTED);
+    EXPECT(add_sell(RUHVASTO_BOOK_BYTES, 8, 100) == RUHVASTO_STALE_NUMBER && add_sell(RUHVASTO_BOOK_BYTES, 9, 100) == RUHVASTO_STALE_NUMBER);
+    EXPECT(ruhvasto_highest_number(book, RUHVASTO_BOOK_BYTES) == 9 && ruhvasto_order_count(book, RUHVASTO_BOOK_BYTES) == 1);
+    EXPECT(add_sell(RUHVASTO_BOOK_BYTES, 10, 100) == RUHVASTO_ACCEPTED && ruhvasto_order_count(book, RUHVASTO_BOOK_BYTES) == 2);
+    EXPECT(ruhvasto_order_count(book, RUHVASTO_RECORD_BYTES - 1) == 0 && ruhvasto_order_count(book, 0) == 0);
+    clear();
+    uint32_t accepted = 0;
+    for (uint32_t i = 1; i <= RUHVASTO_BOOK_ORDERS; i++)
+        accepted += put_in(RUHVASTO_BOOK_BYTES, of_one((ruhvasto_add_request)D(i, 100))) == RUHVASTO_ACCEPTED;
+    EXPECT(accepted == RUHVASTO_BOOK_ORDERS && ruhvasto_order_count(book, RUHVASTO_BOOK_BYTES) == RUHVASTO_BOOK_ORDERS);
+    EXPECT(ruhvasto_check(book, RUHVASTO_BOOK_BYTES, 0).orders == 0 && ruhvasto_check(book, RUHVASTO_BOOK_BYTES, 1).orders == 256);
+    EXPECT(add_sell(RUHVASTO_BOOK_BYTES, RUHVASTO_BOOK_ORDERS + 1, 100) == RUHVASTO_BOOK_FULL);
+    EXPECT(take_from(RUHVASTO_BOOK_BYTES, 0, 500, RUHVASTO_PRO_RATA).left == 500);
+    EXPECT(ruhvasto_reduce(book, RUHVASTO_BOOK_BYTES, 1, 7, 100) == RUHVASTO_ACCEPTED);
+    EXPECT(add_sell(RUHVASTO_BOOK_BYTES, RUHVASTO_BOOK_ORDERS + 1, 100) == RUHVASTO_ACCEPTED);
+}
+
+/* Orders of both at the same prices, one after the other; those of security 1 have the even numbers. */
+static const ruhvasto_add_request mixed[] = {
+    D(1, 300), D(2, 500), R(3, 100, 250), H(4, 70), M(5, 200, 50), R(6, 200, 40), D(7, 40), D(8, 90)
+};
+enum { MIXED = sizeof mixed / sizeof *mixed };
+
+/* The book of these, or of the ones of one security. */
+static void mix(int whole, uint32_t security)
+{
+    clear();
+    for (size_t i = 0; i < MIXED; i++)
+        if (whole || i % 2 == security)
+            EXPECT(put_in(RUHVASTO_BOOK_BYTES, i % 2 == 1 ? of_one(mixed[i]) : mixed[i]) == RUHVASTO_ACCEPTED);
+}
+
+/* The records of a security in the book, read in order, one behind the other; how many they are. */
+static size_t records_of(uint32_t security, uint8_t *records)
+{
+    size_t count = 0;
+    for (size_t i = 0; i < ruhvasto_order_count(book, RUHVASTO_BOOK_BYTES); i++)
+        if (ruhvasto_order_in(book, i).security == security)
+            memcpy(records + RUHVASTO_RECORD_BYTES * count++, book + i * RUHVASTO_RECORD_BYTES, RUHVASTO_RECORD_BYTES);
+    return count;
+}
+
+/* Find and reduce know the orders of their security alone. */
+static void security_numbers(void)
+{
+    uint8_t other[RUHVASTO_BOOK_BYTES], other_after[RUHVASTO_BOOK_BYTES];
+    mix(1, 0);
+    EXPECT(ruhvasto_check(book, RUHVASTO_BOOK_BYTES, 0).orders == 4 && ruhvasto_check(book, RUHVASTO_BOOK_BYTES, 1).orders == 4);
+    for (uint32_t i = 0; i < MIXED; i++) {
+        const uint32_t security = i % 2;
+        const ruhvasto_found found = ruhvasto_find(book, RUHVASTO_BOOK_BYTES, security, i + 1);
+        EXPECT(found.refusal == RUHVASTO_ACCEPTED && found.start == i * RUHVASTO_RECORD_BYTES && found.length == RUHVASTO_RECORD_BYTES);
+        remember();
+        EXPECT(ruhvasto_find(book, RUHVASTO_BOOK_BYTES, 1 - security, i + 1).refusal == RUHVASTO_UNKNOWN_NUMBER);
+        EXPECT(ruhvasto_reduce(book, RUHVASTO_BOOK_BYTES, 1 - security, i + 1, 1) == RUHVASTO_UNKNOWN_NUMBER && same_book());
+    }
+    const size_t count = records_of(1, other);
+    EXPECT(ruhvasto_reduce(book, RUHVASTO_BOOK_BYTES, 0, 3, 350) == RUHVASTO_ACCEPTED);
+    EXPECT(records_of(1, other_after) == count && memcmp(other, other_after, count * RUHVASTO_RECORD_BYTES) == 0);
+    EXPECT(ruhvasto_find(book, RUHVASTO_BOOK_BYTES, 1, 4).start == 2 * RUHVASTO_RECORD_BYTES);
+    EXPECT(ruhvasto_find(book, RUHVASTO_BOOK_BYTES, 0, 3).refusal == RUHVASTO_UNKNOWN_NUMBER);
+}
+
+/* Takes of every size under each algorithm: with the other security in the book, and without it, they give the same executions and leave
+ * the same records; and the other security's are as they were. */
+static void takes_apart(void)
+{
+    static uint8_t alone[RUHVASTO_BOOK_BYTES], own[RUHVASTO_BOOK_BYTES], other[RUHVASTO_BOOK_BYTES], other_after[RUHVASTO_BOOK_BYTES];
+    static uint8_t alone_executions[sizeof executions];
+    for (uint32_t security = 0; security < RUHVASTO_SECURITIES; security++) {
+        for (uint32_t algorithm = RUHVASTO_PRICE_TIME; algorithm <= RUHVASTO_PRO_RATA_SETTER; algorithm++) {
+            uint32_t agree = 0, tried = 0;
+            for (uint32_t size = 1; size <= 951; size += 50, tried++) {
+                const ruhvasto_take_request buy = {
+                    .side = RUHVASTO_BUY, .limit = 100000, .size = size, .algorithm = algorithm, .security = security };
+                mix(0, security);
+                const ruhvasto_taken taken = ruhvasto_take(book, RUHVASTO_BOOK_BYTES, executions, sizeof executions, buy);
+                const size_t resting = records_of(security, alone);
+                memcpy(alone_executions, executions, sizeof executions);
+                mix(1, security);
+                const size_t others = records_of(1 - security, other);
+                const ruhvasto_taken beside = ruhvasto_take(book, RUHVASTO_BOOK_BYTES, executions, sizeof executions, buy);
+                agree += taken.refusal == RUHVASTO_ACCEPTED && taken.count > 0 && beside.refusal == taken.refusal
+                    && beside.count == taken.count && beside.left == taken.left
+                    && memcmp(executions, alone_executions, sizeof executions) == 0
+                    && records_of(security, own) == resting && memcmp(own, alone, resting * RUHVASTO_RECORD_BYTES) == 0
+                    && records_of(1 - security, other_after) == others && memcmp(other, other_after, others * RUHVASTO_RECORD_BYTES) == 0;
+            }
+            EXPECT(tried == 20 && agree == tried);
+        }
+    }
+}
+
+/* Both ladders of one book, kept in turn. */
+static void security_ladders(void)
+{
+    static uint8_t other[RUHVASTO_LADDER_BYTES];
+    const size_t len = RUHVASTO_LADDER_BYTES;
+    clear();
+    memset(ladder, 0, len);
+    memset(other, 0, len);
+    for (size_t i = 0; i < MIXED; i++) {
+        EXPECT(ruhvasto_add_ladder(book, RUHVASTO_BOOK_BYTES, i % 2 == 1 ? other : ladder, len, i % 2 == 1 ? of_one(mixed[i]) : mixed[i])
+            == RUHVASTO_ACCEPTED);
+    }
+    EXPECT(has_rows(ROWS({ RUHVASTO_SELL, 100000, 440, 450, 4 })));
+    /* The one in the place of the other is refused, and nothing changes. */
+    remember();
+    EXPECT(ruhvasto_reduce_ladder(book, RUHVASTO_BOOK_BYTES, ladder, len, 1, 2, 1) == RUHVASTO_OTHER_LADDER && unchanged());
+    EXPECT(ruhvasto_reduce_ladder(book, RUHVASTO_BOOK_BYTES, other, len, 1, 1, 1) == RUHVASTO_UNKNOWN_NUMBER && unchanged());
+    EXPECT(ruhvasto_reduce_ladder(book, RUHVASTO_BOOK_BYTES, other, len, 1, 2, 500) == RUHVASTO_ACCEPTED && same_ladder());
+    const ruhvasto_take_request buy = { .side = RUHVASTO_BUY, .limit = 100000, .size = 400, .algorithm = RUHVASTO_PRO_RATA };
+    EXPECT(ruhvasto_take_ladder(book, RUHVASTO_BOOK_BYTES, executions, sizeof executions, ladder, len, buy).count == 2);
+    EXPECT(has_rows(ROWS({ RUHVASTO_SELL, 100000, 140, 350, 3 })));
+    /* Each is what the new call makes, and the other's is still right. */
+    remember();
+    EXPECT(ruhvasto_ladder(book, RUHVASTO_BOOK_BYTES, ladder, len, 0) == RUHVASTO_ACCEPTED && unchanged());
+    EXPECT(ruhvasto_ladder(book, RUHVASTO_BOOK_BYTES, ladder, len, 1) == RUHVASTO_ACCEPTED && memcmp(ladder, other, len) == 0);
+    EXPECT(has_rows(ROWS({ RUHVASTO_SELL, 100000, 290, 110, 3 })));
 }
 
 int main(void)
@@ -1138,6 +1368,13 @@ int main(void)
     target_lengths();
     old_soundness();
     conversion_refusals();
+    security_ranges();
+    security_records();
+    security_marks();
+    whole_book();
+    security_numbers();
+    takes_apart();
+    security_ladders();
     printf("%d passed, %d failed\n", passed, failed);
     return failed != 0;
 }

@@ -1,6 +1,6 @@
 /* Ruhvasto: a book of resting orders in a buffer that the caller lends, and an incoming order that is shared among them under PSX
  * Rule 3307 (SR-Phlx-2014-24), by price/time, pro rata, or pro rata with the price-setter variation; and beside a book, for those who
- * want it, a ladder: what its orders come to at each price.
+ * want it, a ladder: what its orders come to at each price. A book has room for the orders of two securities, which trade apart.
  *
  * For x86-64 Linux: C's calling convention there (System V), no instruction beyond those that every x86-64 processor has. The code is
  * position independent. It is linked by -lruhvasto, and needs memmove and memset of the C library and nothing else.
@@ -47,10 +47,10 @@ extern "C" {
 #endif
 
 /* The version of this interface. It rises with every change that a caller can notice, and with every change request. */
-#define RUHVASTO_VERSION 7
+#define RUHVASTO_VERSION 8
 
 /* The last change request that the library has; 0 is the base, without any. */
-#define RUHVASTO_REQUESTS 5
+#define RUHVASTO_REQUESTS 6
 
 /* Bytes of stack that are enough for a call that is lent a ladder, for take, for to_new and to_old, and for every other call. */
 #define RUHVASTO_LADDER_STACK_BYTES 16000
@@ -70,12 +70,27 @@ extern "C" {
  *   byte 12 to 15 the size, 1 to 999,999; of a reserve order that of its shown part
  *   byte 16 to 19 the minimum: 1 to the size for a minimum quantity order, 0 for every other
  *   byte 20       the setter mark: 1 if the order set its price, else 0; never 1 but for a displayed order and a reserve order
- *   byte 21 to 31 zero
+ *   byte 21       the security, 0 or 1
+ *   byte 22 to 31 zero
  *   byte 32 to 35 the hidden shares: 0 to 999,999 for a reserve order, 0 for every other
  *   byte 36 to 39 the refresh size: 1 to 999,999 for a reserve order, 0 for every other
  *
- * At most one order of a side and price has the setter mark. A book with all this is sound. Every call checks all of it before it uses the
- * book, so a book may be stored, sent and lent again; damage that leaves it sound isn't noticed.
+ * At most one order of a security, side and price has the setter mark. A book with all this is sound. Every call checks all of it before it
+ * uses the book, so a book may be stored, sent and lent again; damage that leaves it sound isn't noticed.
+ *
+ * TWO SECURITIES share the records of a book and its order numbers, which rise over both, in whatever sequence their orders came. Every call
+ * but the conversions names one, and concerns its orders alone. What is asked of all orders, and what of those of the call's security:
+ *
+ *   of the whole book       whether it is sound (RUHVASTO_UNSOUND_BOOK), whether a new number is above all others (RUHVASTO_STALE_NUMBER),
+ *                           whether a record is free (RUHVASTO_BOOK_FULL)
+ *   of the security alone   the number of orders that check returns; which orders find and reduce know; whether a new order could trade,
+ *                           and whether it gets the setter mark; whom an incoming order trades with; the ladder
+ *
+ * A call for one security leaves the records of the other as they were, in their sequence, though they may move up. What it answers and
+ * writes for its own is the same whatever orders the other has, but for the three refusals above and the place that find returns. Buys of
+ * the one may be priced above sells of the other. But both lie in one buffer, so that a call for one may not run while another call, for
+ * whichever security, changes the book.
+ * Which securities 0 and 1 are, the caller knows. Nothing but byte 21 says which one an order is of: no ladder, and no execution.
  *
  * A RESERVE ORDER is one order in two parts. Its shown part trades as a displayed order of that size would, its hidden part, where it has
  * one, as a non-displayed order of its own size; the time of both is the order's. Where a take leaves it no shown shares but hidden ones,
@@ -89,10 +104,11 @@ extern "C" {
 #define RUHVASTO_RECORD_BYTES 40
 #define RUHVASTO_BOOK_ORDERS 256
 #define RUHVASTO_BOOK_BYTES 10240
+#define RUHVASTO_SECURITIES 2
 
 /* AN OLD BOOK is one as it was up to version 5, and as older boxes still have it: a buffer of 0 to 8,192 bytes, a whole number of records of
- * 32 bytes. These begin with the mark 4F 42 hex, end with byte 31, and have no kind but displayed, non-displayed and minimum quantity; all
- * else is as above. Later versions don't change this form.
+ * 32 bytes. These begin with the mark 4F 42 hex, end with byte 31, have zeros from byte 21 on, and have no kind but displayed, non-displayed
+ * and minimum quantity; all else is as above. So its orders are of security 0. Later versions don't change this form.
  *
  * ruhvasto_to_new turns an old book into the form above, the new one, and ruhvasto_to_old goes back. Every other call takes the new form
  * alone: it refuses an old book RUHVASTO_UNSOUND_BOOK, unless that is empty and its length a whole number of 40 bytes too. A book has no
@@ -119,15 +135,16 @@ extern "C" {
  *   5                                      minimum quantity, of any size
  *   6                                      non-displayed, below a round lot
  *
- * An execution doesn't say under which algorithm it came: whoever keeps executions writes that beside them.
+ * An execution doesn't say under which algorithm it came, nor of which security: whoever keeps executions writes both beside them.
  *
  * A take has at most one execution for each order of the book, and at most two for a reserve order: one for each part, with its own
  * paragraph. So a buffer of 8,192 bytes is never too small, nor one of 4,096 bytes for a book without reserve orders. */
 #define RUHVASTO_EXECUTION_BYTES 16
 #define RUHVASTO_EXECUTIONS_BYTES 8192
 
-/* THE LADDER of a book is a buffer of 6,144 bytes, 256 rows of 24 bytes, with the same order of bytes in a number. Each side and price that
- * an order has is one row. Sells come first with rising price, then buys with falling price; every byte behind the last row is zero.
+/* THE LADDER of a security of a book is a buffer of 6,144 bytes, 256 rows of 24 bytes, with the same order of bytes in a number. Each side
+ * and price that an order of the security has is one row. Sells come first with rising price, then buys with falling price; every byte
+ * behind the last row is zero.
  *
  *   byte 0, 1     the mark 4C 44 hex
  *   byte 2        the side
@@ -144,10 +161,11 @@ extern "C" {
  *     for (size_t i = 0; i < RUHVASTO_LADDER_ROWS && ladder[i * RUHVASTO_ROW_BYTES] != 0; i++)
  *         .. ruhvasto_row_at(ladder + i * RUHVASTO_ROW_BYTES) ..
  *
- * ruhvasto_ladder makes the ladder of a book. That of an empty book is all zeros, so a new book and its ladder are two buffers of zeros.
- * ruhvasto_add_ladder, ruhvasto_reduce_ladder and ruhvasto_take_ladder change the book as the plain calls do, and its ladder with it. Each
- * checks first that the ladder is the book's, to the last byte; so a ladder may be stored, sent and lent again, as a book may. The plain
- * calls know of no ladder: where one of them has changed the book, ruhvasto_ladder makes its ladder again. */
+ * ruhvasto_ladder makes the ladder of a security. Without orders of it that is all zeros, so a new book and its ladders are buffers of
+ * zeros. ruhvasto_add_ladder, ruhvasto_reduce_ladder and ruhvasto_take_ladder change the book as the plain calls do, and the ladder of the
+ * call's security with it. Each checks first that the ladder is that security's, to the last byte; so a ladder may be stored, sent and lent
+ * again, as a book may. The plain calls know of no ladder: where one of them has changed the orders of a security, ruhvasto_ladder makes its
+ * ladder again. A call for one security leaves the other's ladder right, so a book may have both kept beside it. */
 #define RUHVASTO_ROW_BYTES 24
 #define RUHVASTO_LADDER_ROWS 256
 #define RUHVASTO_LADDER_BYTES 6144
@@ -169,19 +187,21 @@ enum { RUHVASTO_PRICE_TIME = 1, RUHVASTO_PRO_RATA = 2, RUHVASTO_PRO_RATA_SETTER 
 /* Refusal numbers, in the order in which they are checked. What is said of add, reduce and take holds of their forms with a ladder too. */
 enum {
     RUHVASTO_ACCEPTED = 0,
-    RUHVASTO_OUT_OF_RANGE = 1,    /* a number given in the call is outside its range; that of a minimum, of hidden shares and of a refresh
-                                     size goes by the kind and the size */
+    RUHVASTO_OUT_OF_RANGE = 1,    /* a number given in the call is outside its range, that of a security being 0 to 1; that of a minimum,
+                                     of hidden shares and of a refresh size goes by the kind and the size */
     RUHVASTO_UNSOUND_BOOK = 2,    /* the book, for to_new an old book, isn't sound, its length included */
     RUHVASTO_LADDER_LENGTH = 9,   /* calls with a ladder: its length isn't 6,144 bytes */
-    RUHVASTO_OTHER_LADDER = 10,   /* calls that keep a ladder: some byte of it isn't what ruhvasto_ladder would write for the book */
-    RUHVASTO_NO_OLD_FORM = 11,    /* to_old: the book has a reserve order, which the old form can't tell; also one that hides nothing */
+    RUHVASTO_OTHER_LADDER = 10,   /* calls that keep a ladder: some byte of it isn't what ruhvasto_ladder would write for the security */
+    RUHVASTO_NO_OLD_FORM = 11,    /* to_old: the book has an order which the old form can't tell: a reserve order, also one that hides
+                                     nothing, or an order of security 1 */
     RUHVASTO_UNFIT_TARGET = 12,   /* to_new, to_old: the target isn't a whole number of records of its form, or has more than 256, or fewer
                                      than there are orders */
-    RUHVASTO_UNKNOWN_NUMBER = 3,  /* find, reduce: no order has the number */
-    RUHVASTO_STALE_NUMBER = 4,    /* add: the number isn't above every number in the book */
-    RUHVASTO_COULD_TRADE = 5,     /* add: on the other side an order within the price is displayed, non-displayed or a reserve order, or is
-                                     a minimum quantity order whose minimum isn't above the new size, hidden shares added to it */
-    RUHVASTO_BOOK_FULL = 6,       /* add: there is no free record */
+    RUHVASTO_UNKNOWN_NUMBER = 3,  /* find, reduce: no order of the security has the number, though one of the other may */
+    RUHVASTO_STALE_NUMBER = 4,    /* add: the number isn't above every number in the book, of either security */
+    RUHVASTO_COULD_TRADE = 5,     /* add: on the other side an order of the security within the price is displayed, non-displayed or a
+                                     reserve order, or is a minimum quantity order whose minimum isn't above the new size, hidden shares
+                                     added to it */
+    RUHVASTO_BOOK_FULL = 6,       /* add: there is no free record; orders of either security have them */
     RUHVASTO_TOO_MANY_SHARES = 7, /* reduce: the order has fewer shares, hidden ones included */
     RUHVASTO_SMALL_BUFFER = 8     /* take: the executions need more bytes than the execution buffer has */
 };
@@ -191,8 +211,8 @@ enum {
  *     (ruhvasto_add_request){ .side = RUHVASTO_SELL, .kind = RUHVASTO_DISPLAYED, .number = 7, .price = 100000, .size = 500 }
  *     (ruhvasto_take_request){ .side = RUHVASTO_BUY, .limit = 100000, .size = 1200, .algorithm = RUHVASTO_PRO_RATA }
  *
- * A field that isn't named is 0: here the minimum, the hidden shares and the refresh size, which a displayed order doesn't have. In C++ start
- * from ruhvasto_add_request request = {} and set fields of it. */
+ * A field that isn't named is 0: here the minimum, the hidden shares and the refresh size, which a displayed order doesn't have, and the
+ * security, which is then 0. In C++ start from ruhvasto_add_request request = {} and set fields of it. */
 
 /* What add is given: the fields of the new order. The ranges are those of a record, but for one: the refresh size of a reserve order is its
  * size, that of the shown part. One that shows 100 shares and hides 250 has
@@ -207,17 +227,19 @@ typedef struct {
     uint32_t minimum;
     uint32_t hidden;
     uint32_t refresh;
+    uint32_t security;
 } ruhvasto_add_request;
 
-/* What take is given: the side, limit price and size of the incoming order, ranges as in a record, and the algorithm. */
+/* What take is given: the side, limit price and size of the incoming order, ranges as in a record, the algorithm, and the security. */
 typedef struct {
     uint32_t side;
     uint32_t limit;
     uint32_t size;
     uint32_t algorithm;
+    uint32_t security;
 } ruhvasto_take_request;
 
-/* What check returns: the number of orders. */
+/* What check returns: the number of orders of the security. */
 typedef struct {
     uint32_t refusal;
     uint32_t orders;
@@ -240,53 +262,54 @@ typedef struct {
 /* The RUHVASTO_VERSION of the library that is linked. Where it isn't the header's, the two don't belong together. */
 uint32_t ruhvasto_version(void);
 
-/* Whether the book is sound, and how many orders it has.
- * Refusals: RUHVASTO_UNSOUND_BOOK. */
+/* Whether the book is sound, and how many orders of this security it has.
+ * Refusals: RUHVASTO_OUT_OF_RANGE, RUHVASTO_UNSOUND_BOOK. */
 RUHVASTO_USE_ANSWER RUHVASTO_NO_NULL
-ruhvasto_checked ruhvasto_check(const uint8_t *book, size_t book_len);
+ruhvasto_checked ruhvasto_check(const uint8_t *book, size_t book_len, uint32_t security);
 
-/* Where in the book the order of this number lies, 1 to 4,294,967,295. The place holds until the book is changed.
+/* Where in the book the order of this security with this number, 1 to 4,294,967,295, lies. The place holds until the book is changed, by a
+ * call for whichever security.
  * Refusals: RUHVASTO_OUT_OF_RANGE, RUHVASTO_UNSOUND_BOOK, RUHVASTO_UNKNOWN_NUMBER. */
 RUHVASTO_USE_ANSWER RUHVASTO_NO_NULL
-ruhvasto_found ruhvasto_find(const uint8_t *book, size_t book_len, uint32_t number);
+ruhvasto_found ruhvasto_find(const uint8_t *book, size_t book_len, uint32_t security, uint32_t number);
 
 /* Puts an order last in the book. It gets the setter mark exactly if it is a displayed order or a reserve order, displays a round lot or
- * more, and is priced strictly better (a buy higher, a sell lower) than every order of these two kinds on its side; so it does if there is
- * none.
+ * more, and is priced strictly better (a buy higher, a sell lower) than every order of these two kinds of its security on its side; so it
+ * does if there is none.
  * Accepted, the order's record stands behind the others, no other byte is changed, and the book is sound.
  * Refusals: RUHVASTO_OUT_OF_RANGE, RUHVASTO_UNSOUND_BOOK, RUHVASTO_STALE_NUMBER, RUHVASTO_COULD_TRADE, RUHVASTO_BOOK_FULL. */
 RUHVASTO_USE_ANSWER RUHVASTO_NO_NULL
 uint32_t ruhvasto_add(uint8_t *book, size_t book_len, ruhvasto_add_request request);
 
-/* Takes shares, 1 to 999,999, from the order of this number; from a reserve order hidden ones first, and shown ones when no hidden one is
- * left. It refreshes nothing. A minimum above the new size becomes the new size. An order without shares leaves: later orders move up one
- * record, and the last record that was used becomes zero. Accepted, the book is sound. A reserve order may have more shares than one call
- * can take.
+/* Takes shares, 1 to 999,999, from the order of this security with this number; from a reserve order hidden ones first, and shown ones when
+ * no hidden one is left. It refreshes nothing. A minimum above the new size becomes the new size. An order without shares leaves: later
+ * orders, of either security, move up one record, and the last record that was used becomes zero. Accepted, the book is sound. A reserve
+ * order may have more shares than one call can take.
  * Refusals: RUHVASTO_OUT_OF_RANGE, RUHVASTO_UNSOUND_BOOK, RUHVASTO_UNKNOWN_NUMBER, RUHVASTO_TOO_MANY_SHARES. */
 RUHVASTO_USE_ANSWER RUHVASTO_NO_NULL
-uint32_t ruhvasto_reduce(uint8_t *book, size_t book_len, uint32_t number, uint32_t shares);
+uint32_t ruhvasto_reduce(uint8_t *book, size_t book_len, uint32_t security, uint32_t number, uint32_t shares);
 
-/* The incoming order takes shares from the orders of the other side that are priced at its limit or better, the best price first, under the
- * algorithm. Each execution is at the resting order's price.
+/* The incoming order takes shares from the orders of its security on the other side that are priced at its limit or better, the best price
+ * first, under the algorithm. Each execution is at the resting order's price.
  * Accepted, the executions stand at the start of their buffer, one for each order that gave shares, of a reserve order one for each part
  * that did, by price (the best first), then by paragraph of the rule, then by rising order number; the bytes behind them are unchanged. In
  * the book each of these orders has so many shares less, of a reserve order each part; a minimum above its new size has become the new
  * size; a reserve order is refreshed where no shown share is left; orders without shares are gone and later ones moved up; the book is
- * sound. What is left of the incoming order isn't put in the book: that is add's part. Added next, on its side and at its limit, with that
- * many shares in all, it is never refused RUHVASTO_COULD_TRADE.
+ * sound. What is left of the incoming order isn't put in the book: that is add's part. Added next, for its security, on its side and at its
+ * limit, with that many shares in all, it is never refused RUHVASTO_COULD_TRADE.
  * The execution buffer may have any length; only what the executions need is asked for, nothing where there are none.
  * Refusals: RUHVASTO_OUT_OF_RANGE, RUHVASTO_UNSOUND_BOOK, RUHVASTO_SMALL_BUFFER. */
 RUHVASTO_USE_ANSWER RUHVASTO_NO_NULL
 ruhvasto_taken ruhvasto_take(uint8_t *book, size_t book_len, uint8_t *executions, size_t executions_len, ruhvasto_take_request request);
 
-/* Makes the ladder of the book: all 6,144 bytes are written, whatever they were. The book is only read.
- * Refusals: RUHVASTO_UNSOUND_BOOK, RUHVASTO_LADDER_LENGTH. */
+/* Makes the ladder of a security: all 6,144 bytes are written, whatever they were. The book is only read.
+ * Refusals: RUHVASTO_OUT_OF_RANGE, RUHVASTO_UNSOUND_BOOK, RUHVASTO_LADDER_LENGTH. */
 RUHVASTO_USE_ANSWER RUHVASTO_NO_NULL
-uint32_t ruhvasto_ladder(const uint8_t *book, size_t book_len, uint8_t *ladder, size_t ladder_len);
+uint32_t ruhvasto_ladder(const uint8_t *book, size_t book_len, uint8_t *ladder, size_t ladder_len, uint32_t security);
 
-/* ADD, REDUCE AND TAKE WITH A LADDER. Each is lent the book's ladder beside the book; any other is refused, before anything is asked of a
- * sound book. With the book's ladder each answers as the plain call does, and leaves the same bytes in book and execution buffer; accepted,
- * the ladder is that of the book as it now is. */
+/* ADD, REDUCE AND TAKE WITH A LADDER. Each is lent the ladder of its security beside the book; any other is refused, before anything is asked
+ * of a sound book. With the right ladder each answers as the plain call does, and leaves the same bytes in book and execution buffer;
+ * accepted, the ladder is the security's in the book as it now is. */
 
 /* Add, with the ladder kept.
  * Refusals: RUHVASTO_OUT_OF_RANGE, RUHVASTO_UNSOUND_BOOK, RUHVASTO_LADDER_LENGTH, RUHVASTO_OTHER_LADDER, RUHVASTO_STALE_NUMBER,
@@ -298,7 +321,8 @@ uint32_t ruhvasto_add_ladder(uint8_t *book, size_t book_len, uint8_t *ladder, si
  * Refusals: RUHVASTO_OUT_OF_RANGE, RUHVASTO_UNSOUND_BOOK, RUHVASTO_LADDER_LENGTH, RUHVASTO_OTHER_LADDER, RUHVASTO_UNKNOWN_NUMBER,
  * RUHVASTO_TOO_MANY_SHARES. */
 RUHVASTO_USE_ANSWER RUHVASTO_NO_NULL
-uint32_t ruhvasto_reduce_ladder(uint8_t *book, size_t book_len, uint8_t *ladder, size_t ladder_len, uint32_t number, uint32_t shares);
+uint32_t ruhvasto_reduce_ladder(uint8_t *book, size_t book_len, uint8_t *ladder, size_t ladder_len, uint32_t security, uint32_t number,
+    uint32_t shares);
 
 /* Take, with the ladder kept.
  * Refusals: RUHVASTO_OUT_OF_RANGE, RUHVASTO_UNSOUND_BOOK, RUHVASTO_LADDER_LENGTH, RUHVASTO_OTHER_LADDER, RUHVASTO_SMALL_BUFFER. */
@@ -307,7 +331,7 @@ ruhvasto_taken ruhvasto_take_ladder(uint8_t *book, size_t book_len, uint8_t *exe
     size_t ladder_len, ruhvasto_take_request request);
 
 /* FROM ONE FORM OF BOOK TO THE OTHER. Each of these two reads a book, the source, and writes its orders in the other form into a second
- * buffer, the target.
+ * buffer, the target. They name no security.
  * Accepted, every byte of the target is written, whatever it was: for each order a record with the mark of the target's form, bytes 2 to 31
  * as they were and, in the new form, zeros behind them; then zeros to the end. So the target is a sound book of its form with the same
  * orders. It may have more records than the source, or fewer; one with as many is never refused RUHVASTO_UNFIT_TARGET. There and back gives
@@ -357,7 +381,7 @@ RUHVASTO_NO_NULL static inline uint32_t ruhvasto_number_at(const uint8_t *bytes)
 
 /* The fields of a record. */
 typedef struct {
-    uint32_t side, kind, number, price, size, minimum, setter, hidden, refresh;
+    uint32_t side, kind, number, price, size, minimum, setter, hidden, refresh, security;
 } ruhvasto_order;
 
 /* Of the 40 bytes of a record; that of an old book has fewer. */
@@ -373,20 +397,30 @@ RUHVASTO_NO_NULL static inline ruhvasto_order ruhvasto_order_at(const uint8_t *r
     order.setter = record[20];
     order.hidden = ruhvasto_number_at(record + 32);
     order.refresh = ruhvasto_number_at(record + 36);
+    order.security = record[21];
     return order;
 }
 
-/* The order in a place of the book; the first is 0. The place is below the number of orders that check returns: nothing checks it. */
+/* The number of orders of a book, of all securities together. It is 0 where the book isn't sound. */
+RUHVASTO_NO_NULL static inline uint32_t ruhvasto_order_count(const uint8_t *book, size_t book_len)
+{
+    uint32_t orders = 0;
+    for (uint32_t security = 0; security < RUHVASTO_SECURITIES; security++)
+        orders += ruhvasto_check(book, book_len, security).orders;
+    return orders;
+}
+
+/* The order in a place of the book, of whichever security; the first is 0. The place is below ruhvasto_order_count: nothing checks it. */
 RUHVASTO_NO_NULL static inline ruhvasto_order ruhvasto_order_in(const uint8_t *book, size_t place)
 {
     return ruhvasto_order_at(book + place * RUHVASTO_RECORD_BYTES);
 }
 
-/* The highest order number of a book, which the next order's must be above. Numbers rise, so it is the last order's. It is 0 where the book
- * is empty, and where it isn't sound: the book is checked first. */
+/* The highest order number of a book, which the next order's must be above, whatever its security. Numbers rise, so it is the last order's.
+ * It is 0 where the book is empty, and where it isn't sound: the book is checked first. */
 RUHVASTO_NO_NULL static inline uint32_t ruhvasto_highest_number(const uint8_t *book, size_t book_len)
 {
-    const uint32_t orders = ruhvasto_check(book, book_len).orders;
+    const uint32_t orders = ruhvasto_order_count(book, book_len);
     return orders == 0 ? 0 : ruhvasto_order_in(book, orders - 1).number;
 }
 

@@ -15,14 +15,15 @@ class Calls(Page):
         "argument | range": "ranges",
         "field of the request | range": "ranges",
         "field | accepted | refused": "answers",
-        "buffer | answer: refusal, orders": "checks",
-        "buffer | looked for | answer: refusal, start, length": "finds",
-        "side, kind, number, price, size, minimum, hidden, refresh | returned | why": "adds",
-        "record | side | kind | number | price | size | minimum | setter mark | hidden shares | refresh size": "records",
-        "number, shares | returned | orders afterwards: number, kind, size": "reduces",
-        "side, limit, size, algorithm | bytes for executions | returned: refusal, count, left | executions, in order | orders afterwards":
-            "taken",
-        "buffer | bytes of the ladder | returned": "ladders",
+        "call | asks of the whole book | of its security alone": "apart",
+        "buffer | security | answer: refusal, orders": "checks",
+        "buffer | security, number | answer: refusal, start, length": "finds",
+        "side, kind, number, price, size, minimum, hidden, refresh, security | returned | why": "adds",
+        "record | side | kind | number | price | size | minimum | setter mark | hidden shares | refresh size | security": "records",
+        "security, number, shares | returned | orders afterwards: number, kind, size": "reduces",
+        "side, limit, size, algorithm, security | bytes for executions | returned: refusal, count, left | executions, in order"
+        " | orders afterwards": "taken",
+        "buffer | security | bytes of the ladder | returned": "ladders",
         "row | side | price | displayed shares | other shares | orders": "rows",
         "call | numbers; of take then the bytes for executions | ladder | returned | rows afterwards": "kept",
         "call | source | bytes of the target | returned | why": "conversions",
@@ -30,12 +31,12 @@ class Calls(Page):
         "order | size | exact share | first step | lacks | rest | second step | gets": "sharing",
         "algorithm | paragraph | order | minimum | shares left | gets": "turns",
     }
-    has = {"refusals": 1, "stack": 1, "prototypes": 8, "ranges": 4, "answers": 3, "checks": 1, "finds": 1, "adds": 2, "records": 2, "reduces": 2,
-           "taken": 2, "ladders": 1, "rows": 1, "kept": 1, "conversions": 2, "paragraphs": 1, "sharing": 5, "printed": 3, "turns": 1}
+    has = {"refusals": 1, "stack": 1, "prototypes": 8, "ranges": 6, "answers": 3, "checks": 2, "finds": 2, "adds": 3, "records": 3, "reduces": 3,
+           "taken": 3, "ladders": 1, "rows": 2, "kept": 2, "apart": 1, "conversions": 3, "paragraphs": 1, "sharing": 5, "printed": 3, "turns": 1}
     prose = ("condition", "why")
-    given = ("buffer", "looked for", "side, kind, number, price, size, minimum, hidden, refresh", "number, shares", "side, limit, size, algorithm",
-             "bytes for executions", "bytes of the ladder", "numbers; of take then the bytes for executions", "ladder", "source",
-             "bytes of the target")
+    given = ("buffer", "security", "security, number", "side, kind, number, price, size, minimum, hidden, refresh, security",
+             "security, number, shares", "side, limit, size, algorithm, security", "bytes for executions", "bytes of the ladder",
+             "numbers; of take then the bytes for executions", "ladder", "source", "bytes of the target")
 
     def code(self, lines):
         return "prototypes" if lines[0].startswith("C  ") else "printed" if self.before.endswith("Printed:") else None
@@ -69,8 +70,10 @@ class Calls(Page):
 
     # Whether the call of this section refuses 1, given some numbers in the place of its usual ones.
     def refuses(self, **changed):
-        usual = {"Find": {"number": 1}, "Reduce": {"number": 1, "shares": 1}, "Take": {"side": 1, "limit": 1, "size": 1, "algorithm": 1},
-                 "Add": {"side": 1, "kind": 1, "number": 1, "price": 1, "size": 500, "minimum": 0, "hidden": 0, "refresh": 0}}[self.heading]
+        usual = {"Check": {"security": 0}, "Find": {"security": 0, "number": 1}, "Reduce": {"security": 0, "number": 1, "shares": 1},
+                 "Take": {"side": 1, "limit": 1, "size": 1, "algorithm": 1, "security": 0}, "Ladder": {"security": 0},
+                 "Add": {"side": 1, "kind": 1, "number": 1, "price": 1, "size": 500, "minimum": 0, "hidden": 0, "refresh": 0,
+                         "security": 0}}[self.heading]
         if set(changed) - set(usual):
             raise Wrong(f"no such number: {changed}")
         if self.heading == "Add" and changed.get("kind") == 3:
@@ -82,9 +85,10 @@ class Calls(Page):
 
     # Every range is tried at its ends and right outside, each value of a list too; of add for each kind that the row speaks of.
     def ranges(self, rows):
-        fields = {"Find": ["`number`"], "Reduce": ["`number`", "`shares`"], "Take": ["`side`", "`limit`", "`size`", "`algorithm`"],
+        fields = {"Check": ["`security`"], "Find": ["`security`", "`number`"], "Reduce": ["`security`", "`number`", "`shares`"],
+                  "Take": ["`side`", "`limit`", "`size`", "`algorithm`", "`security`"], "Ladder": ["`security`"],
                   "Add": ["`side`", "`kind`", "`number`", "`price`", "`size`", "`minimum`, kind 3", "`minimum`, kinds 1, 2 and 4", "`hidden`, kind 4",
-                          "`hidden`, kinds 1, 2 and 3", "`refresh`, kind 4", "`refresh`, kinds 1, 2 and 3"]}[self.heading]
+                          "`hidden`, kinds 1, 2 and 3", "`refresh`, kind 4", "`refresh`, kinds 1, 2 and 3", "`security`"]}[self.heading]
         self.hold(rows[0][0], [row[0] for _, row in rows], fields)
         for line, (name, values) in rows:
             ends, inside = values_in(values, 500)
@@ -109,12 +113,12 @@ class Calls(Page):
         return lent_book(said, self.book)
 
     def checks(self, rows):
-        for line, (buffer, said) in rows:
-            self.hold(line, said, answer(self.library.call("check", self.buffer(buffer))[0]))
+        for line, (buffer, security, said) in rows:
+            self.hold(line, said, answer(self.library.call("check", self.buffer(buffer), number(security))[0]))
 
     def finds(self, rows):
         for line, (buffer, sought, said) in rows:
-            self.hold(line, said, answer(self.library.call("find", self.buffer(buffer), number(sought))[0]))
+            self.hold(line, said, answer(self.library.call("find", self.buffer(buffer), *figures(sought))[0]))
 
     def adds(self, rows):
         for line, (numbers, said, _) in rows:
@@ -128,48 +132,53 @@ class Calls(Page):
 
     def reduces(self, rows):
         for line, (numbers, said, after) in rows:
-            order, shares = figures(numbers)
-            returned, self.book, _ = self.library.call("reduce", self.book, order, shares)
+            returned, self.book, _ = self.library.call("reduce", self.book, *figures(numbers))
             self.hold(line, [said, after], [str(returned[0]), listed(orders_in(self.book))])
 
     def taken(self, rows):
         for line, (numbers, room, said, executions, after) in rows:
-            side, limit, size, algorithm = figures(numbers)
-            returned, self.book, buffer = self.library.call("take", self.book, side, limit, size, algorithm, executions=bytes(int(room)))
+            returned, self.book, buffer = self.library.call("take", self.book, *figures(numbers), executions=bytes(int(room)))
             true = [answer(returned), traded(executions_in(returned[1], buffer)), listed(orders_in(self.book))]
             self.hold(line, [said, executions, after], true)
 
     # Whatever stood in the ladder; refused, it still stands there.
     def ladders(self, rows):
-        for line, (buffer, length, said) in rows:
+        for line, (buffer, security, length, said) in rows:
             book, before = self.buffer(buffer), bytes([255] * number(length))
-            (refusal,), _, _, ladder = self.library.keep("ladder", book, before)
+            (refusal,), _, _, ladder = self.library.keep("ladder", book, before, number(security))
             self.hold(line, said, str(refusal))
-            self.hold(line, ladder == (before if refusal else self.library.ladder(book)), True)
+            self.hold(line, ladder == (before if refusal else self.library.ladder(book, number(security))), True)
 
+    # The rows of the ladder of a security, which the words in front name.
     def rows(self, rows):
-        self.ladder = self.library.ladder(self.book)
-        for place, ((line, row), true) in enumerate(zip(rows, rows_in(self.ladder), strict=True)):
+        self.ladders_kept = [self.library.ladder(self.book, security) for security in range(self.header["SECURITIES"])]
+        ladder = self.ladders_kept[int(re.search(r"of security (\d)", self.before)[1])]
+        for place, ((line, row), true) in enumerate(zip(rows, rows_in(ladder), strict=True)):
             self.hold(line, row, [str(n) for n in (place, *true)])
         self.table_left = self.book
 
-    # The ladder that the calls before left, or another one in its place.
-    def lent(self, said):
+    # The ladder of a security that the calls before left, or another one in its place.
+    def lent(self, said, security):
+        if said == "the other security's":
+            return self.ladders_kept[1 - security]
         if match := re.match(r"its first (\d+) bytes$", said):
-            return self.ladder[:int(match[1])]
+            return self.ladders_kept[security][:int(match[1])]
         match = re.match(r"kept(?:, byte (\d+) = (\w\w) hex)?$", said)
-        data = bytearray(self.ladder)
+        data = bytearray(self.ladders_kept[security])
         if match[1]:
             if data[int(match[1])] == int(match[2], 16):
                 raise Wrong(f"no change: {said}")
             data[int(match[1])] = int(match[2], 16)
         return bytes(data)
 
-    # A refused call leaves all as it was; with the ladder that was kept each does what the plain call does, and leaves the new book's.
+    # A refused call leaves all as it was; with the ladder that was kept each does what the plain call does, and leaves the new book's. The
+    # ladder of the other security stays right.
     def kept(self, rows):
         for line, (call, given, lent, said, after) in rows:
-            numbers, before = figures(given), self.lent(lent)
+            numbers = figures(given)
             executions = bytes([238] * numbers.pop()) if call == "take" else b""
+            security = dict(enumerate(numbers)).get({"add": 8, "reduce": 0, "take": 4}[call], 0)
+            before = self.lent(lent, security)
             returned, book, filled, ladder = self.library.keep(f"{call}_ladder", self.book, before, *numbers, executions=executions)
             true = "as before" if ladder == before else totals(rows_in(ladder))
             self.hold(line, [said, after], [answer(returned) if call == "take" else str(returned[0]), true])
@@ -178,8 +187,18 @@ class Calls(Page):
             if returned[0]:
                 self.hold(line, (book, filled, ladder) == (self.book, executions, before), True)
             else:
-                self.hold(line, ladder == self.library.ladder(book), True)
-                self.book, self.ladder = book, ladder
+                self.hold(line, ladder == self.library.ladder(book, security), True)
+                self.book, self.ladders_kept[security] = book, ladder
+                self.hold(line, self.ladders_kept[1 - security] == self.library.ladder(book, 1 - security), True)
+
+    # Each refusal that a call has on account of orders stands once: of the whole book, or of the call's security.
+    def apart(self, rows):
+        of_call, whole = self.header.of_call, {2, 4, 6, 11, 12}
+        true = {call: set(of_call[call]) - {1, 9} for call in ("check", "find", "add", "reduce", "take", "ladder")}
+        true["the forms with a ladder"] = set(of_call["add_ladder"]) - set(of_call["add"]) - {9}
+        true["to_new, to_old"] = set(of_call["to_old"])
+        for (line, row), (calls, numbers) in zip(rows, true.items(), strict=True):
+            self.hold(line, [row[0], *map(figures, row[1:])], [calls, sorted(numbers & whole), sorted(numbers - whole)])
 
     # Whatever stood in the target; refused, it still stands there. Accepted, it is the source in the other form, and leads back to it.
     def conversions(self, rows):

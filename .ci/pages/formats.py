@@ -7,8 +7,9 @@ from pages.library import (OLD_RECORD, RECORD, Execution, Row, SIDES, Take, Wron
 from pages.markdown import codes, figures, number, read
 from pages.page import Page, tried, values_in
 
-FIELDS = {"mark": 2, "side": 1, "kind": 1, "order number": 4, "price": 4, "size": 4, "minimum": 4, "setter mark": 1, "none": 11,
-          "hidden shares": 4, "refresh size": 4}
+# The fields of a record of each length, with their widths.
+COMMON = {"mark": 2, "side": 1, "kind": 1, "order number": 4, "price": 4, "size": 4, "minimum": 4, "setter mark": 1}
+FIELDS = {OLD_RECORD: COMMON | {"none": 11}, RECORD: COMMON | {"security": 1, "none": 10, "hidden shares": 4, "refresh size": 4}}
 
 # What the layout of a record, of the old form or not, says of fields whose values go by the kind: the words, and for each kind the range.
 BY_KIND = {
@@ -34,7 +35,7 @@ class Formats(Page):
         "line | printed | why": "lines",
         "input | written | why": "inputs",
     }
-    has = {"limits": 1, "layout": 4, "dump": 11, "fields": 3, "grammar": 2, "commands": 1, "printable": 2, "sheet": 1, "printed": 1, "lines": 1,
+    has = {"limits": 1, "layout": 4, "dump": 13, "fields": 4, "grammar": 2, "commands": 1, "printable": 2, "sheet": 1, "printed": 1, "lines": 1,
            "inputs": 1}
     prose = ("why", "meaning")
     given = ("line", "input")
@@ -52,6 +53,7 @@ class Formats(Page):
             "bytes of a book": [0, h["BOOK_BYTES"]], "bytes of a record": [h["RECORD_BYTES"]] * 2,
             "bytes of an old book": [0, h["OLD_BOOK_BYTES"]], "bytes of a record of an old book": [h["OLD_RECORD_BYTES"]] * 2,
             "orders of a book": [0, h["BOOK_ORDERS"]],
+            "security": [0, h["SECURITIES"] - 1],
             "order number": [1, 4294967295], "price, limit price": [1, h["PRICE_MOST"]], "size, shares of a reduce": [1, h["SIZE_MOST"]],
             "minimum, kind 3": [1], "minimum, kinds 1, 2 and 4": [0, 0], "hidden shares, kind 4": [0, h["SIZE_MOST"]],
             "refresh size, kind 4": [1, h["SIZE_MOST"]], "hidden shares and refresh size, kinds 1, 2 and 3": [0, 0],
@@ -83,7 +85,8 @@ class Formats(Page):
         h = self.header
         words = [f"at most {h['BOOK_BYTES']:,} bytes", f"a multiple of {h['RECORD_BYTES']}.",
                  f"begins with {self.library.book('D 1')[:2].hex(' ').upper()} hex", f"a price of 1 to {h['PRICE_MOST']:,};",
-                 f"a size of 1 to {h['SIZE_MOST']:,};", f"0 to {h['SIZE_MOST']:,} hidden shares and a refresh size of 1 to {h['SIZE_MOST']:,},"]
+                 f"a size of 1 to {h['SIZE_MOST']:,};", f"has security 0 or {h['SECURITIES'] - 1} in byte 21, and zeros in bytes 22 to 31;",
+                 f"0 to {h['SIZE_MOST']:,} hidden shares and a refresh size of 1 to {h['SIZE_MOST']:,},"]
         self.hold(line, [said for said in words if said in self.before], words)
 
     # So are those of the old form, beside its table.
@@ -194,7 +197,7 @@ class Formats(Page):
 
     def word_reduce(self, line, said):
         order, shares = map(number, re.match(r"order ([\d,]+) by ([\d,]+)$", said).groups())
-        (refusal,), self.book, _ = self.library.call("reduce", self.book, order, shares)
+        (refusal,), self.book, _ = self.library.call("reduce", self.book, 0, order, shares)
         self.hold(line, refusal, 0)
 
     # The book into the other form; back, it is the one that the section began with.
@@ -231,7 +234,8 @@ class Formats(Page):
 
     # Its rows, and one behind them; rows_in has seen that all behind them is zero.
     def dump_ladder(self, line, lines):
-        ladder, each, sides = self.library.ladder(self.book), self.header["ROW_BYTES"], {number: side for side, number in SIDES.items()}
+        security = int(re.search(r"of the ladder of security (\d)", self.before)[1])
+        ladder, each, sides = self.library.ladder(self.book, security), self.header["ROW_BYTES"], {number: side for side, number in SIDES.items()}
         rows = rows_in(ladder)
         remarks = {each * i: f"{sides[r.side]} at {r.price}: {r.displayed:,} and {r.other:,} in {r.orders}" for i, r in enumerate(rows)}
         remarks[each * len(rows)] = "free, and so are all behind it"
@@ -243,8 +247,8 @@ class Formats(Page):
         start = int(rows[0][1][0].split()[0], 16)
         record = self.dumped[start:start + self.record]
         self.hold(rows[0][0], self.before, f"The record of order {orders_in(record, self.record)[0].number}, field by field:")
-        at, fields = 0, list(FIELDS.items())[:len(FIELDS) if self.record == RECORD else -2]
-        for (line, row), (field, width) in zip(rows, fields, strict=True):
+        at = 0
+        for (line, row), (field, width) in zip(rows, FIELDS[self.record].items(), strict=True):
             data, last = record[at:at + width], start + at + width - 1
             places = f"{start + at:02x}" + (f" to {last:02x}" if width > 1 else "")
             value = int.from_bytes(data, "little")
@@ -264,7 +268,8 @@ class Formats(Page):
         said = {6: [self.header["BOOK_ORDERS"]]}
         refusals = {n for call in ("add", "reduce", "take") for n in self.header.of_call[call]} - {2, 8}
         if self.heading.startswith("Books"):
-            said, refusals = {2: [self.header["BOOK_BYTES"]], 11: [self.header["RESERVE"]]}, set(self.header.of_call["to_old"]) - {12}
+            untold = [self.header["RESERVE"], self.header["SECURITIES"] - 1]
+            said, refusals = {2: [self.header["BOOK_BYTES"]], 11: untold}, set(self.header.of_call["to_old"]) - {12}
         for (line, row), value in zip(rows, sorted(refusals), strict=True):
             self.hold(line, [figures(cell) for cell in row], [[value], said.get(value, [])])
 

@@ -13,14 +13,14 @@ CALLS = ["check", "find", "add", "reduce", "take", "ladder", "to_new", "to_old"]
 FORMS = ["add", "reduce", "take"]  # the calls that also have a form with a ladder
 SIDES = {"buy": 1, "sell": 2}
 KINDS = {"D": 1, "H": 2, "M": 3, "R": 4}
-ORDER = re.compile(r"(?:(buy|sell) )?([DHMR]) ([\d,]+)(?:\+([\d,]+))?(?:/([\d,]+))?(?: at (\d+))?$")
+ORDER = re.compile(r"(?:(buy|sell) )?([DHMR]) ([\d,]+)(?:\+([\d,]+))?(?:/([\d,]+))?(?: at (\d+))?(?: of security (\d))?$")
 RECORD, OLD_RECORD = 40, 32  # bytes
-TAKE = re.compile(r"(buy|sell) ([\d,]+)(?: at (\d+))?, algorithms? (\d)(?: and (\d))?$")
+TAKE = re.compile(r"(buy|sell) ([\d,]+)(?: at (\d+))?(?: of security (\d))?, algorithms? (\d)(?: and (\d))?$")
 
-Order = collections.namedtuple("Order", "side kind number price size minimum setter hidden refresh")
+Order = collections.namedtuple("Order", "side kind number price size minimum setter hidden refresh security")
 Execution = collections.namedtuple("Execution", "number price shares paragraph")
 Row = collections.namedtuple("Row", "side price displayed other orders")
-Take = collections.namedtuple("Take", "side limit size algorithm")
+Take = collections.namedtuple("Take", "side limit size algorithm security", defaults=[0])
 
 
 class Wrong(Exception):
@@ -77,15 +77,16 @@ class Library:
             raise Wrong(f"{name} changed its source")
         return refusal, target
 
-    # The ladder that a new call makes of a book, whatever stood in it.
+    # The ladder that a new call makes of a security of a book, whatever stood in it.
     @functools.lru_cache(maxsize=None)
-    def ladder(self, book):
-        (refusal,), _, _, ladder = self.keep("ladder", book, bytes([255] * 6144))
+    def ladder(self, book, security=0):
+        (refusal,), _, _, ladder = self.keep("ladder", book, bytes([255] * 6144), security)
         if refusal:
             raise Wrong(f"the ladder is refused {refusal}")
         return ladder
 
-    # A book made by adding orders: 'D 600, buy M 500/400 at 99900, R 100+250/100', with '4 records, ' in front where it has room for more.
+    # A book made by adding orders: 'D 600, buy M 500/400 at 99900, R 100+250/100 of security 1', with '4 records, ' in front where it has
+    # room for more.
     @functools.lru_cache(maxsize=None)
     def book(self, said):
         room = re.match(r"(\d+) records, ", said)
@@ -116,15 +117,16 @@ def request(word, place):
         raise Wrong(f"no order: {word}")
     size, hidden, behind = (number(words or "0") for words in match.group(3, 4, 5))
     minimum, refresh = (behind, 0) if match[2] == "M" else (0, behind)
-    return SIDES[match[1] or "sell"], KINDS[match[2]], place, int(match[6] or 100000), size, minimum, hidden, refresh
+    return SIDES[match[1] or "sell"], KINDS[match[2]], place, int(match[6] or 100000), size, minimum, hidden, refresh, int(match[7] or 0)
 
 
-# Takes as the pages write them, one for each algorithm: 'buy 220 at 100000, algorithms 1 and 2'.
+# Takes as the pages write them, one for each algorithm: 'buy 220 at 100000 of security 1, algorithms 1 and 2'.
 def takes_in(said):
     match = TAKE.match(said)
     if not match:
         raise Wrong(f"no take: {said}")
-    return [Take(SIDES[match[1]], int(match[3] or 100000), number(match[2]), int(a)) for a in match.groups()[3:] if a]
+    order = SIDES[match[1]], int(match[3] or 100000), number(match[2])
+    return [Take(*order, int(a), int(match[4] or 0)) for a in match.groups()[4:] if a]
 
 
 def fillsheet(lines):
@@ -187,7 +189,7 @@ def numbers_at(data, places):
 # The orders of a book; of an old one, with records of another width, nothing is hidden.
 def orders_in(book, width=RECORD):
     records = (book[at:at + width] for at in range(0, len(book), width))
-    return [Order(r[2], r[3], *numbers_at(r, (4, 8, 12, 16)), r[20], *numbers_at(r, (32, 36))) for r in records if r[0]]
+    return [Order(r[2], r[3], *numbers_at(r, (4, 8, 12, 16)), r[20], *numbers_at(r, (32, 36)), r[21]) for r in records if r[0]]
 
 
 def executions_in(count, buffer):
@@ -208,10 +210,12 @@ def letter(kind):
     return next(name for name, value in KINDS.items() if value == kind)
 
 
-# Orders as the tables have them: number, kind, and size; of kind 3 the minimum, of kind 4 the hidden shares and the refresh size.
+# Orders as the tables have them: number, kind, and size; of kind 3 the minimum, of kind 4 the hidden shares and the refresh size; and the
+# security, where it isn't 0.
 def listed(orders):
     behind = {3: "/{0.minimum:,}", 4: "+{0.hidden:,}/{0.refresh:,}"}
-    return ", ".join(f"{o.number} {letter(o.kind)} {o.size:,}" + behind.get(o.kind, "").format(o) for o in orders) or "none"
+    of = lambda o: behind.get(o.kind, "").format(o) + (f" of security {o.security}" if o.security else "")
+    return ", ".join(f"{o.number} {letter(o.kind)} {o.size:,}{of(o)}" for o in orders) or "none"
 
 
 def traded(executions):

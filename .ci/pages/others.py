@@ -47,7 +47,7 @@ class Readings(Page):
         "reading | book | incoming | each gets | still rests | left | another reading would give": "apart",
         "reading | book | incoming | executions | still rests | left | another reading would give": "parts_apart",
     }
-    has = {"cases": 1, "apart": 1, "parts_apart": 1}
+    has = {"cases": 1, "apart": 1, "parts_apart": 2}
     only_read = ("point | decided | reason",)
     prose = ("case", "reading", "shows", "another reading would give")
     given = ("book", "incoming")
@@ -118,7 +118,8 @@ class Proofs(Page):
     path = "docs/PROOFS.md"
     tables = {"file | says": "counts"}
     has = {"counts": 1}
-    only_read = ("part | what says it", "part | definition", "fact | theorem", "part | clause of `Fair` | words that it uses", "what | how", "command | does")
+    only_read = ("part | what says it", "part | definition", "fact | theorem", "part | clause of `Fair` | words that it uses",
+                 "call | answers | other buffers", "what | how", "command | does")
     prose = ("file", "says")
 
     # Lines of definitions without imports and empty lines: fewer than the page says.

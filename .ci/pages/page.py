@@ -122,7 +122,7 @@ def spans(line):
     return [match.span() for match in re.finditer(pattern, line)]
 
 
-# The values that a range names: its two ends, or each value of a list such as '1 buy, 2 sell', or the size alone.
+# The values that a range names: its two ends, or each value of a list such as '1 buy, 2 sell' or '0 or 1', or the size alone.
 def values_in(text, size):
     text = text.split(";")[0]
     if text == "the size":
@@ -130,7 +130,7 @@ def values_in(text, size):
     if match := re.match(r"([\d,]+) to (the size|[\d,]+)$", text):
         least, most = figures(match[1])[0], size if match[2] == "the size" else figures(match[2])[0]
         return [least, most], lambda value: least <= value <= most
-    values = [int(n) for n in re.findall(r"(?:^|, )(\d+)(?: |$)", text)]
+    values = [int(n) for n in re.findall(r"(?:^|, | or )(\d+)(?= |$)", text)]
     return values, lambda value: value in values
 
 

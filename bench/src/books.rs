@@ -1,6 +1,8 @@
 //! The books that are timed. All orders are sells, numbered from 1, but in the
-//! books with a ladder, which have buys too.
+//! books with a ladder, which have buys too; and all are of one security, but in the
+//! book of two.
 
+use crate::calls::SECURITY;
 use model::book::{self, Kind, Order, Side, RECORD_LENGTH};
 
 /// The best price. Others are a cent each above it.
@@ -31,6 +33,7 @@ fn sell(place: u32, kind: Kind, price: u32, size: u32) -> Order {
         price,
         size,
         setter: false,
+        security: SECURITY,
     }
 }
 
@@ -62,6 +65,15 @@ pub fn reserves(count: u32) -> Vec<Order> {
             sell(place, kind, BEST_PRICE, refresh)
         })
         .collect()
+}
+
+/// Displayed sells of mixed sizes at one price, of two securities by turns.
+pub fn two_securities(count: u32) -> Vec<Order> {
+    let mut orders = displayed(count, false);
+    for order in orders.iter_mut().skip(1).step_by(2) {
+        order.security = 1 - SECURITY;
+    }
+    orders
 }
 
 /// Displayed sells of mixed sizes, those at some places a cent better priced than
@@ -176,7 +188,7 @@ pub fn entered(orders: &[Order], records: u32) -> Vec<u8> {
 }
 
 /// The numbers of an order, as add takes them.
-pub fn numbers(order: &Order) -> [u32; 8] {
+pub fn numbers(order: &Order) -> [u32; 9] {
     let (kind, minimum, hidden, refresh) = match order.kind {
         Kind::Displayed => (1, 0, 0, 0),
         Kind::NonDisplayed => (2, 0, 0, 0),
@@ -187,10 +199,13 @@ pub fn numbers(order: &Order) -> [u32; 8] {
         number,
         price,
         size,
+        security,
         ..
     } = *order;
     let side = order.side as u32;
-    [side, kind, number, price, size, minimum, hidden, refresh]
+    [
+        side, kind, number, price, size, minimum, hidden, refresh, security,
+    ]
 }
 
 /// The bytes of a full book of orders that all have the setter mark.

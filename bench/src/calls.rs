@@ -4,28 +4,32 @@
 use library::Numbers;
 use model::fast;
 
+/// The security that every call is for.
+pub const SECURITY: u32 = 0;
+
 #[derive(Clone, Copy)]
 pub enum Call {
     Check,
     Find {
         number: u32,
     },
-    /// Side, kind, number, price, size, minimum, hidden shares and refresh size.
-    Add([u32; 8]),
+    /// Side, kind, number, price, size, minimum, hidden shares, refresh size and
+    /// security.
+    Add([u32; 9]),
     Reduce {
         number: u32,
         shares: u32,
     },
-    /// Side, limit, size and algorithm.
-    Take([u32; 4]),
+    /// Side, limit, size, algorithm and security.
+    Take([u32; 5]),
     Ladder,
     /// The forms that keep a ladder, with the numbers of their plain calls.
-    AddLadder([u32; 8]),
+    AddLadder([u32; 9]),
     ReduceLadder {
         number: u32,
         shares: u32,
     },
-    TakeLadder([u32; 4]),
+    TakeLadder([u32; 5]),
 }
 
 impl Call {
@@ -50,13 +54,13 @@ pub struct Buffers<'a> {
 pub trait Calls {
     fn check(book: &[u8]) -> Numbers;
     fn find(book: &[u8], number: u32) -> Numbers;
-    fn add(book: &mut [u8], order: [u32; 8]) -> Numbers;
+    fn add(book: &mut [u8], order: [u32; 9]) -> Numbers;
     fn reduce(book: &mut [u8], number: u32, shares: u32) -> Numbers;
-    fn take(book: &mut [u8], executions: &mut [u8], incoming: [u32; 4]) -> Numbers;
+    fn take(book: &mut [u8], executions: &mut [u8], incoming: [u32; 5]) -> Numbers;
     fn ladder(book: &[u8], ladder: &mut [u8]) -> Numbers;
-    fn add_ladder(book: &mut [u8], ladder: &mut [u8], order: [u32; 8]) -> Numbers;
+    fn add_ladder(book: &mut [u8], ladder: &mut [u8], order: [u32; 9]) -> Numbers;
     fn reduce_ladder(book: &mut [u8], ladder: &mut [u8], number: u32, shares: u32) -> Numbers;
-    fn take_ladder(buffers: Buffers, incoming: [u32; 4]) -> Numbers;
+    fn take_ladder(buffers: Buffers, incoming: [u32; 5]) -> Numbers;
 
     #[inline(always)]
     fn answer(call: &Call, buffers: Buffers) -> Numbers {
@@ -101,41 +105,40 @@ pub struct FastModel;
 
 impl Calls for FastModel {
     fn check(book: &[u8]) -> Numbers {
-        let (refusal, orders) = fast::check(book);
+        let (refusal, orders) = fast::check(book, SECURITY);
         [refusal as usize, orders as usize, 0]
     }
 
     fn find(book: &[u8], number: u32) -> Numbers {
-        let (refusal, start, length) = fast::find(book, number);
+        let (refusal, start, length) = fast::find(book, SECURITY, number);
         [refusal as usize, start, length]
     }
 
-    fn add(book: &mut [u8], order: [u32; 8]) -> Numbers {
+    fn add(book: &mut [u8], order: [u32; 9]) -> Numbers {
         only(fast::add(book, order))
     }
 
     fn reduce(book: &mut [u8], number: u32, shares: u32) -> Numbers {
-        only(fast::reduce(book, number, shares))
+        only(fast::reduce(book, SECURITY, number, shares))
     }
 
-    fn take(book: &mut [u8], executions: &mut [u8], incoming: [u32; 4]) -> Numbers {
-        let [side, limit, size, algorithm] = incoming;
-        all(fast::take(book, executions, side, limit, size, algorithm))
+    fn take(book: &mut [u8], executions: &mut [u8], incoming: [u32; 5]) -> Numbers {
+        all(fast::take(book, executions, incoming))
     }
 
     fn ladder(book: &[u8], ladder: &mut [u8]) -> Numbers {
-        only(fast::ladder(book, ladder))
+        only(fast::ladder(book, ladder, SECURITY))
     }
 
-    fn add_ladder(book: &mut [u8], ladder: &mut [u8], order: [u32; 8]) -> Numbers {
+    fn add_ladder(book: &mut [u8], ladder: &mut [u8], order: [u32; 9]) -> Numbers {
         only(fast::add_ladder(book, ladder, order))
     }
 
     fn reduce_ladder(book: &mut [u8], ladder: &mut [u8], number: u32, shares: u32) -> Numbers {
-        only(fast::reduce_ladder(book, ladder, number, shares))
+        only(fast::reduce_ladder(book, ladder, SECURITY, number, shares))
     }
 
-    fn take_ladder(buffers: Buffers, incoming: [u32; 4]) -> Numbers {
+    fn take_ladder(buffers: Buffers, incoming: [u32; 5]) -> Numbers {
         let Buffers {
             book,
             executions,
@@ -149,38 +152,38 @@ pub struct Library;
 
 impl Calls for Library {
     fn check(book: &[u8]) -> Numbers {
-        library::check(book)
+        library::check(book, SECURITY)
     }
 
     fn find(book: &[u8], number: u32) -> Numbers {
-        library::find(book, number)
+        library::find(book, SECURITY, number)
     }
 
-    fn add(book: &mut [u8], order: [u32; 8]) -> Numbers {
+    fn add(book: &mut [u8], order: [u32; 9]) -> Numbers {
         library::add(book, order)
     }
 
     fn reduce(book: &mut [u8], number: u32, shares: u32) -> Numbers {
-        library::reduce(book, number, shares)
+        library::reduce(book, SECURITY, number, shares)
     }
 
-    fn take(book: &mut [u8], executions: &mut [u8], incoming: [u32; 4]) -> Numbers {
+    fn take(book: &mut [u8], executions: &mut [u8], incoming: [u32; 5]) -> Numbers {
         library::take(book, executions, incoming)
     }
 
     fn ladder(book: &[u8], ladder: &mut [u8]) -> Numbers {
-        library::ladder(book, ladder)
+        library::ladder(book, ladder, SECURITY)
     }
 
-    fn add_ladder(book: &mut [u8], ladder: &mut [u8], order: [u32; 8]) -> Numbers {
+    fn add_ladder(book: &mut [u8], ladder: &mut [u8], order: [u32; 9]) -> Numbers {
         library::add_ladder(book, ladder, order)
     }
 
     fn reduce_ladder(book: &mut [u8], ladder: &mut [u8], number: u32, shares: u32) -> Numbers {
-        library::reduce_ladder(book, ladder, number, shares)
+        library::reduce_ladder(book, ladder, SECURITY, number, shares)
     }
 
-    fn take_ladder(buffers: Buffers, incoming: [u32; 4]) -> Numbers {
+    fn take_ladder(buffers: Buffers, incoming: [u32; 5]) -> Numbers {
         library::take_ladder(buffers.book, buffers.executions, buffers.ladder, incoming)
     }
 }

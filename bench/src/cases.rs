@@ -1,10 +1,11 @@
 //! What is timed: a call and the book that it is made on.
 
 use crate::books::{self, price, BEST_PRICE};
-use crate::calls::Call;
+use crate::calls::{Call, SECURITY};
 use crate::ladders;
 use crate::leaving;
 use crate::reserves;
+use crate::securities;
 use model::book::Order;
 
 #[derive(Clone)]
@@ -75,6 +76,7 @@ pub fn all() -> Vec<Case> {
     cases.extend(leaving::cases());
     cases.extend(ladders::cases());
     cases.extend(reserves::cases());
+    cases.extend(securities::cases());
     cases
 }
 
@@ -157,7 +159,7 @@ pub fn take(
     Case {
         call_name: TAKES[algorithm as usize - 1],
         book_name: book_name.into(),
-        call: Call::Take([BUY, price(FULL), size, algorithm]),
+        call: Call::Take([BUY, price(FULL), size, algorithm, SECURITY]),
         book: books::entered(orders, orders.len() as u32),
         ladder: Vec::new(),
         executions,

@@ -2,7 +2,7 @@
 //! one.
 
 use crate::books;
-use crate::calls::Call;
+use crate::calls::{Call, SECURITY};
 use crate::cases::{Case, BUY, FULL};
 use model::book::{Order, Side};
 use model::LADDER_LENGTH;
@@ -49,7 +49,7 @@ const FORMS: [Form; 4] = [
     ("take with a ladder, algorithm 2 (pro rata)", |orders| {
         let sells = orders.iter().filter(|order| order.side == Side::Sell);
         let total: u32 = sells.map(|order| order.size).sum();
-        Call::TakeLadder([BUY, books::price(FULL), total / 5 * 3, 2])
+        Call::TakeLadder([BUY, books::price(FULL), total / 5 * 3, 2, SECURITY])
     }),
 ];
 
@@ -93,7 +93,8 @@ fn kept((call_name, call): Form, extent: Extent) -> Case {
     };
     let book = books::entered(before, count);
     let mut ladder = vec![0; LADDER_LENGTH];
-    assert_eq!(model::ladder(&book, &mut ladder), 0, "the book is sound");
+    let refusal = model::ladder(&book, &mut ladder, SECURITY);
+    assert_eq!(refusal, 0, "the book is sound");
     Case {
         call_name,
         book_name: book_name(extent),

@@ -14,6 +14,7 @@ mod measure;
 mod plot;
 mod report;
 mod reserves;
+mod securities;
 
 use cases::Case;
 use measure::Measured;

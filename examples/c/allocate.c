@@ -7,6 +7,9 @@
 static uint8_t book[16 * RUHVASTO_RECORD_BYTES]; /* for 16 orders, none yet */
 static uint8_t executions[RUHVASTO_EXECUTIONS_BYTES];
 
+/* The security of all orders here; a request that names none has this one. */
+enum { SECURITY = 0 };
+
 /* A displayed sell. */
 static uint32_t add_sell(uint32_t number, uint32_t price, uint32_t size)
 {
@@ -21,7 +24,7 @@ static void print_order(ruhvasto_order order)
 
 static void print_book(void)
 {
-    ruhvasto_checked checked = ruhvasto_check(book, sizeof book);
+    ruhvasto_checked checked = ruhvasto_check(book, sizeof book, SECURITY);
     printf("book refusal %" PRIu32 " orders %" PRIu32 "\n", checked.refusal, checked.orders);
     for (uint32_t i = 0; i < checked.orders; i++)
         print_order(ruhvasto_order_in(book, i));
@@ -29,7 +32,7 @@ static void print_book(void)
 
 static void find(uint32_t number)
 {
-    ruhvasto_found found = ruhvasto_find(book, sizeof book, number);
+    ruhvasto_found found = ruhvasto_find(book, sizeof book, SECURITY, number);
     printf("find %" PRIu32 " refusal %" PRIu32 "\n", number, found.refusal);
     if (found.refusal == RUHVASTO_ACCEPTED)
         print_order(ruhvasto_order_at(book + found.start));
@@ -59,7 +62,7 @@ int main(void)
     printf("add 5 refusal %" PRIu32 "\n", add_sell(5, 100000, 40));
     print_book();
     find(3);
-    printf("reduce 1 refusal %" PRIu32 "\n", ruhvasto_reduce(book, sizeof book, 1, 400));
+    printf("reduce 1 refusal %" PRIu32 "\n", ruhvasto_reduce(book, sizeof book, SECURITY, 1, 400));
     take((ruhvasto_take_request){ .side = RUHVASTO_BUY, .limit = 100000, .size = 1000, .algorithm = RUHVASTO_PRO_RATA_SETTER });
     print_book();
     take((ruhvasto_take_request){ .side = RUHVASTO_BUY, .limit = 100000, .size = 4030, .algorithm = RUHVASTO_PRO_RATA });

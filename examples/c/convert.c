@@ -15,6 +15,9 @@ static uint8_t old[4 * RUHVASTO_OLD_RECORD_BYTES] = {
 };
 static uint8_t book[16 * RUHVASTO_RECORD_BYTES]; /* for 16 orders */
 
+/* The security of all orders here: that of every order of an old book, and of a request that names none. */
+enum { SECURITY = 0 };
+
 static void add(ruhvasto_add_request request)
 {
     printf("add %" PRIu32 ": %s\n", request.number, ruhvasto_refusal_name(ruhvasto_add(book, sizeof book, request)));
@@ -22,7 +25,7 @@ static void add(ruhvasto_add_request request)
 
 static void print_book(void)
 {
-    ruhvasto_checked checked = ruhvasto_check(book, sizeof book);
+    ruhvasto_checked checked = ruhvasto_check(book, sizeof book, SECURITY);
     for (uint32_t i = 0; i < checked.orders; i++) {
         ruhvasto_order order = ruhvasto_order_in(book, i);
         printf("order %" PRIu32 " kind %" PRIu32 " price %" PRIu32 " size %" PRIu32 " minimum %" PRIu32 "%s\n",
@@ -67,11 +70,11 @@ int main(void)
     to_old(3 * RUHVASTO_OLD_RECORD_BYTES);
     to_old(100);
 
-    /* The old form has no reserve orders. With this one in the book there is no way back; without it there is. */
+    /* The old form has no reserve orders, nor orders of security 1. With this one in the book there is no way back; without it there is. */
     add((ruhvasto_add_request){
         .side = RUHVASTO_SELL, .kind = RUHVASTO_RESERVE, .number = 5, .price = 100200, .size = 100, .hidden = 250, .refresh = 100 });
     to_old(sizeof old);
-    printf("reduce 5: %s\n", ruhvasto_refusal_name(ruhvasto_reduce(book, sizeof book, 5, 350)));
+    printf("reduce 5: %s\n", ruhvasto_refusal_name(ruhvasto_reduce(book, sizeof book, SECURITY, 5, 350)));
     to_old(sizeof old);
     return 0;
 }

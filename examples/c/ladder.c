@@ -8,6 +8,9 @@ static uint8_t book[16 * RUHVASTO_RECORD_BYTES]; /* for 16 orders, none yet */
 static uint8_t ladder[RUHVASTO_LADDER_BYTES];    /* an empty book's: zeros */
 static uint8_t executions[RUHVASTO_EXECUTIONS_BYTES];
 
+/* The security of all orders here; a request that names none has this one. */
+enum { SECURITY = 0 };
+
 static void add(ruhvasto_add_request request)
 {
     uint32_t refusal = ruhvasto_add_ladder(book, sizeof book, ladder, sizeof ladder, request);
@@ -45,7 +48,7 @@ int main(void)
     print_ladder();
 
     /* The only order of its side at its price: the row goes with it. */
-    printf("reduce 4 refusal %" PRIu32 "\n", ruhvasto_reduce_ladder(book, sizeof book, ladder, sizeof ladder, 4, 400));
+    printf("reduce 4 refusal %" PRIu32 "\n", ruhvasto_reduce_ladder(book, sizeof book, ladder, sizeof ladder, SECURITY, 4, 400));
     print_ladder();
 
     /* All that is sold at 100000, and some of what is sold at 100100. */
@@ -53,9 +56,9 @@ int main(void)
     print_ladder();
 
     /* A plain call changes the book alone. Its ladder is then another one, and has to be made again. */
-    printf("plain reduce 1 refusal %" PRIu32 "\n", ruhvasto_reduce(book, sizeof book, 1, 50));
+    printf("plain reduce 1 refusal %" PRIu32 "\n", ruhvasto_reduce(book, sizeof book, SECURITY, 1, 50));
     add((ruhvasto_add_request){ .side = RUHVASTO_SELL, .kind = RUHVASTO_DISPLAYED, .number = 6, .price = 100100, .size = 70 });
-    printf("ladder refusal %" PRIu32 "\n", ruhvasto_ladder(book, sizeof book, ladder, sizeof ladder));
+    printf("ladder refusal %" PRIu32 "\n", ruhvasto_ladder(book, sizeof book, ladder, sizeof ladder, SECURITY));
     add((ruhvasto_add_request){ .side = RUHVASTO_SELL, .kind = RUHVASTO_DISPLAYED, .number = 6, .price = 100100, .size = 70 });
     print_ladder();
     return 0;

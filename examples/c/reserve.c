@@ -7,6 +7,9 @@
 static uint8_t book[16 * RUHVASTO_RECORD_BYTES]; /* for 16 orders, none yet */
 static uint8_t executions[RUHVASTO_EXECUTIONS_BYTES];
 
+/* The security of all orders here; a request that names none has this one. */
+enum { SECURITY = 0 };
+
 static void add(ruhvasto_add_request request)
 {
     printf("add %" PRIu32 " refusal %" PRIu32 "\n", request.number, ruhvasto_add(book, sizeof book, request));
@@ -14,7 +17,8 @@ static void add(ruhvasto_add_request request)
 
 static void reduce(uint32_t number, uint32_t shares)
 {
-    printf("reduce %" PRIu32 " by %" PRIu32 " refusal %" PRIu32 "\n", number, shares, ruhvasto_reduce(book, sizeof book, number, shares));
+    uint32_t refusal = ruhvasto_reduce(book, sizeof book, SECURITY, number, shares);
+    printf("reduce %" PRIu32 " by %" PRIu32 " refusal %" PRIu32 "\n", number, shares, refusal);
 }
 
 static void take(ruhvasto_take_request request)
@@ -31,7 +35,7 @@ static void take(ruhvasto_take_request request)
 /* Of a displayed order the hidden shares and the refresh size are 0. */
 static void print_book(void)
 {
-    ruhvasto_checked checked = ruhvasto_check(book, sizeof book);
+    ruhvasto_checked checked = ruhvasto_check(book, sizeof book, SECURITY);
     for (uint32_t i = 0; i < checked.orders; i++) {
         ruhvasto_order order = ruhvasto_order_in(book, i);
         printf("order %" PRIu32 " shows %" PRIu32 " hides %" PRIu32 " refresh %" PRIu32 "%s\n",

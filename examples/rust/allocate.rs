@@ -5,6 +5,9 @@ mod ruhvasto;
 
 use ruhvasto::{AddRequest, Algorithm, Execution, Kind, Order, Refusal, Side, TakeRequest};
 
+/// The security of all orders here.
+const SECURITY: u32 = 0;
+
 /// A displayed sell.
 fn add_sell(book: &mut [u8], number: u32, price: u32, size: u32) {
     let request = AddRequest {
@@ -13,6 +16,7 @@ fn add_sell(book: &mut [u8], number: u32, price: u32, size: u32) {
         number,
         price,
         size,
+        security: SECURITY,
     };
     let answer = ruhvasto::add(book, request);
     println!("add {number} refusal {}", refusal(&answer));
@@ -31,7 +35,7 @@ fn print_order(order: Order) {
 }
 
 fn print_book(book: &[u8]) {
-    let answer = ruhvasto::check(book);
+    let answer = ruhvasto::check(book, SECURITY);
     let orders = *answer.as_ref().unwrap_or(&0);
     println!("book refusal {} orders {orders}", refusal(&answer));
     for record in book
@@ -43,7 +47,7 @@ fn print_book(book: &[u8]) {
 }
 
 fn find(book: &[u8], number: u32) {
-    let answer = ruhvasto::find(book, number);
+    let answer = ruhvasto::find(book, SECURITY, number);
     println!("find {number} refusal {}", refusal(&answer));
     if let Ok(record) = answer {
         print_order(Order::of(record));
@@ -89,13 +93,14 @@ fn main() {
     find(&book, 3);
     println!(
         "reduce 1 refusal {}",
-        refusal(&ruhvasto::reduce(&mut book, 1, 400))
+        refusal(&ruhvasto::reduce(&mut book, SECURITY, 1, 400))
     );
     let request = TakeRequest {
         side: Side::Buy,
         limit: 100000,
         size: 1000,
         algorithm: Algorithm::ProRataSetter,
+        security: SECURITY,
     };
     take(&mut book, request);
     print_book(&book);

@@ -15,6 +15,9 @@ const STORED: [&[u8]; 3] = [
     b"\x4f\x42\x02\x03\x03\0\0\0\x04\x87\x01\0\xc8\0\0\0\x32",
 ];
 
+/// The security of all orders here: that of every order of an old book.
+const SECURITY: u32 = 0;
+
 fn name<T>(answer: Result<T, Refusal>) -> &'static str {
     answer.err().map_or("accepted", Refusal::name)
 }
@@ -28,7 +31,7 @@ fn add(book: &mut [u8], request: AddRequest) {
 }
 
 fn print_book(book: &[u8]) {
-    let orders = ruhvasto::check(book).unwrap_or(0);
+    let orders = ruhvasto::check(book, SECURITY).unwrap_or(0);
     for record in book
         .chunks_exact(ruhvasto::RECORD_BYTES)
         .take(orders as usize)
@@ -88,6 +91,7 @@ fn main() {
         limit: 100000,
         size: 200,
         algorithm: Algorithm::ProRata,
+        security: SECURITY,
     };
     let mut executions = [0; ruhvasto::EXECUTIONS_BYTES];
     let answer = ruhvasto::take(&mut book, &mut executions, buy);
@@ -99,6 +103,7 @@ fn main() {
         number: 4,
         price: 99900,
         size: 40,
+        security: SECURITY,
     };
     add(&mut book, rest);
     to_old(&book, &mut old);
@@ -108,16 +113,20 @@ fn main() {
     to_old(&book, &mut old[..3 * ruhvasto::OLD_RECORD_BYTES]);
     to_old(&book, &mut old[..100]);
 
-    // The old form has no reserve orders. With this one in the book there is no way back; without it there is.
+    // The old form has no reserve orders, nor orders of security 1. With this one in the book there is no way back; without it there is.
     let reserve = AddRequest {
         side: Side::Sell,
         kind: Kind::Reserve(250),
         number: 5,
         price: 100200,
         size: 100,
+        security: SECURITY,
     };
     add(&mut book, reserve);
     to_old(&book, &mut old);
-    println!("reduce 5: {}", name(ruhvasto::reduce(&mut book, 5, 350)));
+    println!(
+        "reduce 5: {}",
+        name(ruhvasto::reduce(&mut book, SECURITY, 5, 350))
+    );
     to_old(&book, &mut old);
 }

@@ -5,6 +5,9 @@ mod ruhvasto;
 
 use ruhvasto::{AddRequest, Algorithm, Kind, Refusal, Side, TakeRequest};
 
+/// The security of all orders here.
+const SECURITY: u32 = 0;
+
 fn refusal<T>(answer: &Result<T, Refusal>) -> u32 {
     answer.as_ref().err().map_or(0, |refusal| refusal.0)
 }
@@ -22,6 +25,7 @@ impl Kept {
             number,
             price,
             size,
+            security: SECURITY,
         };
         let answer = ruhvasto::add_ladder(&mut self.book, &mut self.ladder, request);
         println!("add {number} refusal {}", refusal(&answer));
@@ -70,7 +74,7 @@ fn main() {
     kept.print_ladder();
 
     // The only order of its side at its price: the row goes with it.
-    let answer = ruhvasto::reduce_ladder(&mut kept.book, &mut kept.ladder, 4, 400);
+    let answer = ruhvasto::reduce_ladder(&mut kept.book, &mut kept.ladder, SECURITY, 4, 400);
     println!("reduce 4 refusal {}", refusal(&answer));
     kept.print_ladder();
 
@@ -80,14 +84,15 @@ fn main() {
         limit: 100100,
         size: 600,
         algorithm: Algorithm::ProRata,
+        security: SECURITY,
     });
     kept.print_ladder();
 
     // A plain call changes the book alone. Its ladder is then another one, and has to be made again.
-    let answer = ruhvasto::reduce(&mut kept.book, 1, 50);
+    let answer = ruhvasto::reduce(&mut kept.book, SECURITY, 1, 50);
     println!("plain reduce 1 refusal {}", refusal(&answer));
     kept.add(Side::Sell, Kind::Displayed, 6, 100100, 70);
-    let answer = ruhvasto::ladder(&kept.book, &mut kept.ladder);
+    let answer = ruhvasto::ladder(&kept.book, &mut kept.ladder, SECURITY);
     println!("ladder refusal {}", refusal(&answer));
     kept.add(Side::Sell, Kind::Displayed, 6, 100100, 70);
     kept.print_ladder();

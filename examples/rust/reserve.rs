@@ -5,6 +5,9 @@ mod ruhvasto;
 
 use ruhvasto::{AddRequest, Algorithm, Execution, Kind, Order, Refusal, Side, TakeRequest};
 
+/// The security of all orders here.
+const SECURITY: u32 = 0;
+
 fn refusal<T>(answer: &Result<T, Refusal>) -> u32 {
     answer.as_ref().err().map_or(0, |refusal| refusal.0)
 }
@@ -17,13 +20,14 @@ fn add_sell(book: &mut [u8], kind: Kind, number: u32, size: u32) {
         number,
         price: 100000,
         size,
+        security: SECURITY,
     };
     let answer = ruhvasto::add(book, request);
     println!("add {number} refusal {}", refusal(&answer));
 }
 
 fn reduce(book: &mut [u8], number: u32, shares: u32) {
-    let answer = ruhvasto::reduce(book, number, shares);
+    let answer = ruhvasto::reduce(book, SECURITY, number, shares);
     println!("reduce {number} by {shares} refusal {}", refusal(&answer));
 }
 
@@ -34,6 +38,7 @@ fn take(book: &mut [u8], size: u32) {
         limit: 100000,
         size,
         algorithm: Algorithm::ProRata,
+        security: SECURITY,
     };
     let mut executions = [0; ruhvasto::EXECUTIONS_BYTES];
     let answer = ruhvasto::take(book, &mut executions, request);
@@ -54,7 +59,7 @@ fn take(book: &mut [u8], size: u32) {
 
 /// Of a displayed order the hidden shares and the refresh size are 0.
 fn print_book(book: &[u8]) {
-    let orders = ruhvasto::check(book).unwrap_or(0);
+    let orders = ruhvasto::check(book, SECURITY).unwrap_or(0);
     for record in book
         .chunks_exact(ruhvasto::RECORD_BYTES)
         .take(orders as usize)

@@ -2,9 +2,11 @@
 //! says, never NULL, and two that are lent at once to be written never overlap: so these functions are safe.
 
 /// The version of the interface that this module is written for.
-pub const VERSION: u32 = 7;
+pub const VERSION: u32 = 8;
 
 pub const RECORD_BYTES: usize = 40;
+/// Securities are numbered from 0, and a book has the orders of so many.
+pub const SECURITIES: u32 = 2;
 /// Of a record of an old book.
 pub const OLD_RECORD_BYTES: usize = 32;
 pub const EXECUTION_BYTES: usize = 16;
@@ -71,6 +73,7 @@ pub struct AddRequest {
     pub number: u32,
     pub price: u32,
     pub size: u32,
+    pub security: u32,
 }
 
 /// What take is given.
@@ -80,6 +83,7 @@ pub struct TakeRequest {
     pub limit: u32,
     pub size: u32,
     pub algorithm: Algorithm,
+    pub security: u32,
 }
 
 /// An accepted take: how many executions it wrote, and the shares left.
@@ -100,6 +104,7 @@ mod c {
         pub minimum: u32,
         pub hidden: u32,
         pub refresh: u32,
+        pub security: u32,
     }
 
     #[repr(C)]
@@ -108,6 +113,7 @@ mod c {
         pub limit: u32,
         pub size: u32,
         pub algorithm: u32,
+        pub security: u32,
     }
 
     #[repr(C)]
@@ -133,10 +139,17 @@ mod c {
     #[link(name = "ruhvasto", kind = "static")]
     extern "C" {
         pub fn ruhvasto_version() -> u32;
-        pub fn ruhvasto_check(book: *const u8, book_len: usize) -> Checked;
-        pub fn ruhvasto_find(book: *const u8, book_len: usize, number: u32) -> Found;
+        pub fn ruhvasto_check(book: *const u8, book_len: usize, security: u32) -> Checked;
+        pub fn ruhvasto_find(book: *const u8, book_len: usize, security: u32, number: u32)
+            -> Found;
         pub fn ruhvasto_add(book: *mut u8, book_len: usize, request: AddRequest) -> u32;
-        pub fn ruhvasto_reduce(book: *mut u8, book_len: usize, number: u32, shares: u32) -> u32;
+        pub fn ruhvasto_reduce(
+            book: *mut u8,
+            book_len: usize,
+            security: u32,
+            number: u32,
+            shares: u32,
+        ) -> u32;
         pub fn ruhvasto_take(
             book: *mut u8,
             book_len: usize,
@@ -149,6 +162,7 @@ mod c {
             book_len: usize,
             ladder: *mut u8,
             ladder_len: usize,
+            security: u32,
         ) -> u32;
         pub fn ruhvasto_add_ladder(
             book: *mut u8,
@@ -162,6 +176,7 @@ mod c {
             book_len: usize,
             ladder: *mut u8,
             ladder_len: usize,
+            security: u32,
             number: u32,
             shares: u32,
         ) -> u32;
@@ -206,6 +221,7 @@ impl AddRequest {
             minimum,
             hidden,
             refresh,
+            security: self.security,
         }
     }
 }
@@ -217,6 +233,7 @@ impl TakeRequest {
             limit: self.limit,
             size: self.size,
             algorithm: self.algorithm as u32,
+            security: self.security,
         }
     }
 }
@@ -242,16 +259,16 @@ pub fn version() -> u32 {
     unsafe { c::ruhvasto_version() }
 }
 
-/// The number of orders of a sound book.
-pub fn check(book: &[u8]) -> Result<u32, Refusal> {
-    let checked = unsafe { c::ruhvasto_check(book.as_ptr(), book.len()) };
+/// The number of orders of the security, in a sound book.
+pub fn check(book: &[u8], security: u32) -> Result<u32, Refusal> {
+    let checked = unsafe { c::ruhvasto_check(book.as_ptr(), book.len(), security) };
     accepted(checked.refusal)?;
     Ok(checked.orders)
 }
 
 /// The order's own record.
-pub fn find(book: &[u8], number: u32) -> Result<&[u8], Refusal> {
-    let found = unsafe { c::ruhvasto_find(book.as_ptr(), book.len(), number) };
+pub fn find(book: &[u8], security: u32, number: u32) -> Result<&[u8], Refusal> {
+    let found = unsafe { c::ruhvasto_find(book.as_ptr(), book.len(), security, number) };
     accepted(found.refusal)?;
     Ok(&book[found.start..found.start + found.length])
 }
@@ -260,8 +277,8 @@ pub fn add(book: &mut [u8], request: AddRequest) -> Result<(), Refusal> {
     accepted(unsafe { c::ruhvasto_add(book.as_mut_ptr(), book.len(), request.for_c()) })
 }
 
-pub fn reduce(book: &mut [u8], number: u32, shares: u32) -> Result<(), Refusal> {
-    accepted(unsafe { c::ruhvasto_reduce(book.as_mut_ptr(), book.len(), number, shares) })
+pub fn reduce(book: &mut [u8], security: u32, number: u32, shares: u32) -> Result<(), Refusal> {
+    accepted(unsafe { c::ruhvasto_reduce(book.as_mut_ptr(), book.len(), security, number, shares) })
 }
 
 pub fn take(
@@ -280,14 +297,20 @@ pub fn take(
     })
 }
 
-/// Makes the ladder of the book, whatever stood in it.
-pub fn ladder(book: &[u8], ladder: &mut [u8]) -> Result<(), Refusal> {
+/// Makes the ladder of the security, whatever stood in it.
+pub fn ladder(book: &[u8], ladder: &mut [u8], security: u32) -> Result<(), Refusal> {
     accepted(unsafe {
-        c::ruhvasto_ladder(book.as_ptr(), book.len(), ladder.as_mut_ptr(), ladder.len())
+        c::ruhvasto_ladder(
+            book.as_ptr(),
+            book.len(),
+            ladder.as_mut_ptr(),
+            ladder.len(),
+            security,
+        )
     })
 }
 
-/// Add, with the book's ladder kept.
+/// Add, with the ladder of its security kept.
 pub fn add_ladder(book: &mut [u8], ladder: &mut [u8], request: AddRequest) -> Result<(), Refusal> {
     accepted(unsafe {
         c::ruhvasto_add_ladder(
@@ -300,10 +323,11 @@ pub fn add_ladder(book: &mut [u8], ladder: &mut [u8], request: AddRequest) -> Re
     })
 }
 
-/// Reduce, with the book's ladder kept.
+/// Reduce, with the ladder of its security kept.
 pub fn reduce_ladder(
     book: &mut [u8],
     ladder: &mut [u8],
+    security: u32,
     number: u32,
     shares: u32,
 ) -> Result<(), Refusal> {
@@ -313,13 +337,14 @@ pub fn reduce_ladder(
             book.len(),
             ladder.as_mut_ptr(),
             ladder.len(),
+            security,
             number,
             shares,
         )
     })
 }
 
-/// Take, with the book's ladder kept.
+/// Take, with the ladder of its security kept.
 pub fn take_ladder(
     book: &mut [u8],
     executions: &mut [u8],
@@ -369,6 +394,7 @@ pub struct Order {
     pub setter: bool,
     pub hidden: u32,
     pub refresh: u32,
+    pub security: u8,
 }
 
 impl Order {
@@ -384,8 +410,15 @@ impl Order {
             setter: record[20] == 1,
             hidden: number_at(record, 32),
             refresh: number_at(record, 36),
+            security: record[21],
         }
     }
+}
+
+/// The records of a book's orders, of all securities. They end before the first whose first byte is zero, or with the last.
+pub fn records(book: &[u8]) -> impl Iterator<Item = &[u8]> {
+    book.chunks_exact(RECORD_BYTES)
+        .take_while(|record| record[0] != 0)
 }
 
 /// The fields of an execution.

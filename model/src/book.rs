@@ -4,7 +4,8 @@
 use crate::Refusal;
 
 pub use crate::order::{
-    price_in_range, size_in_range, Kind, Order, Side, HIGHEST_PRICE, LARGEST_SIZE, ROUND_LOT,
+    price_in_range, security_in_range, size_in_range, Kind, Order, Side, HIGHEST_PRICE,
+    LARGEST_SIZE, ROUND_LOT, SECURITIES,
 };
 
 pub const MOST_ORDERS: usize = 256;
@@ -49,7 +50,8 @@ impl Form {
 
     /// Whether a record of this form has a place for all that the order is.
     pub fn can_tell(self, order: &Order) -> bool {
-        self == Form::New || !matches!(order.kind, Kind::Reserve { .. })
+        let in_old_form = !matches!(order.kind, Kind::Reserve { .. }) && order.security == 0;
+        self == Form::New || in_old_form
     }
 }
 
@@ -71,17 +73,18 @@ impl Order {
         record[12..16].copy_from_slice(&self.size.to_le_bytes());
         record[16..20].copy_from_slice(&minimum.to_le_bytes());
         record[20] = self.setter as u8;
+        record[21] = self.security as u8;
         record[32..36].copy_from_slice(&hidden.to_le_bytes());
         record[36..40].copy_from_slice(&refresh.to_le_bytes());
         record
     }
 
-    /// The order of a record in this form. An old one is read with zeros behind it,
-    /// so that it tells no reserve order, which has a refresh size.
+    /// The order of a record in this form. An old one is read as a new one with zeros
+    /// behind it, and has to be one that the old form can tell.
     fn of_record(form: Form, bytes: &[u8]) -> Option<Order> {
         let mut record = [0; RECORD_LENGTH];
         record[..bytes.len()].copy_from_slice(bytes);
-        if record[0..2] != form.mark() || !all_zero(&record[21..32]) {
+        if record[0..2] != form.mark() || !all_zero(&record[22..32]) {
             return None;
         }
         let order = Order::of_numbers([
@@ -93,7 +96,9 @@ impl Order {
             number_at(&record, 16),
             number_at(&record, 32),
             number_at(&record, 36),
-        ])?;
+            u32::from(record[21]),
+        ])
+        .filter(|order| form.can_tell(order))?;
         match record[20] {
             0 => Some(order),
             1 if order.is_displayed() => Some(Order {
@@ -119,6 +124,16 @@ pub fn read(book: &[u8]) -> Result<Vec<Order>, Refusal> {
 /// The orders of a book that is sound in this form.
 pub fn read_in(form: Form, book: &[u8]) -> Result<Vec<Order>, Refusal> {
     sound_orders(form, book).ok_or(Refusal::UnsoundBook)
+}
+
+/// The orders of a security in a sound book, in the order of their records.
+pub fn orders_of(book: &[u8], security: u32) -> Result<Vec<Order>, Refusal> {
+    if !security_in_range(security) {
+        return Err(Refusal::OutOfRange);
+    }
+    let mut orders = read(book)?;
+    orders.retain(|order| order.security == security);
+    Ok(orders)
 }
 
 /// Makes the book one of exactly these orders in the new form, with zeros behind
@@ -155,10 +170,10 @@ fn sound_orders(form: Form, book: &[u8]) -> Option<Vec<Order>> {
     let records: Vec<&[u8]> = book.chunks_exact(form.record_length()).collect();
     let used = records.iter().rposition(|record| !all_zero(record));
     let occupied = used.map_or(0, |last| last + 1);
-    let orders = records[..occupied]
-        .iter()
-        .map(|record| Order::of_record(form, record))
-        .collect::<Option<Vec<Order>>>()?;
+    let mut orders = Vec::with_capacity(occupied);
+    for record in &records[..occupied] {
+        orders.push(Order::of_record(form, record)?);
+    }
     (numbers_rise(&orders) && setters_are_single(&orders)).then_some(orders)
 }
 
@@ -166,17 +181,18 @@ fn numbers_rise(orders: &[Order]) -> bool {
     orders.windows(2).all(|two| two[0].number < two[1].number)
 }
 
-/// At most one order per side and price has the setter mark.
+/// At most one order per security, side and price has the setter mark.
 fn setters_are_single(orders: &[Order]) -> bool {
-    let mut marked: Vec<(u32, u32)> = orders
+    let mut marked: Vec<(u32, u32, u32)> = orders
         .iter()
         .filter(|order| order.setter)
-        .map(|order| (order.side as u32, order.price))
+        .map(|order| (order.security, order.side as u32, order.price))
         .collect();
     marked.sort_unstable();
     marked.windows(2).all(|two| two[0] != two[1])
 }
 
+/// Of at most a record's bytes.
 fn all_zero(bytes: &[u8]) -> bool {
-    bytes.iter().all(|&byte| byte == 0)
+    bytes == &[0; RECORD_LENGTH][..bytes.len()]
 }

@@ -1,4 +1,5 @@
-//! The fillsheet: a text of adds, reduces and takes, and what comes of them.
+//! The fillsheet: a text of adds, reduces and takes, and what comes of them. It
+//! trades one security.
 
 use crate::book::LONGEST_BOOK;
 use crate::{calls, take, Refusal};
@@ -7,6 +8,7 @@ use std::io::Write;
 /// More input than this is refused whole.
 pub const LONGEST_INPUT: usize = 65_536;
 const EXECUTIONS_LENGTH: usize = 4_096;
+const SECURITY: u32 = 0;
 
 /// What the fillsheet prints for its input.
 pub fn fillsheet(input: &[u8]) -> Vec<u8> {
@@ -64,6 +66,7 @@ impl Desk {
             }
             [b"X", order, shares] => Some(calls::reduce(
                 &mut self.book,
+                SECURITY,
                 number(order)?,
                 number(shares)?,
             )),
@@ -79,7 +82,7 @@ impl Desk {
                     number(size)?,
                     number(minimum)?,
                 ];
-                let order = [side, kind, order, price, size, minimum, 0, 0];
+                let order = [side, kind, order, price, size, minimum, 0, 0, SECURITY];
                 Some(calls::add(&mut self.book, order))
             }
             _ => None,
@@ -87,14 +90,8 @@ impl Desk {
     }
 
     fn take(&mut self, side: u32, limit: u32, size: u32) -> u32 {
-        let (refusal, count, left) = take::take(
-            &mut self.book,
-            &mut self.executions,
-            side,
-            limit,
-            size,
-            self.algorithm,
-        );
+        let incoming = [side, limit, size, self.algorithm, SECURITY];
+        let (refusal, count, left) = take::take(&mut self.book, &mut self.executions, incoming);
         if refusal == 0 {
             self.print("order price shares");
             for fill in take::read_executions(&self.executions, count) {

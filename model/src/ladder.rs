@@ -1,5 +1,6 @@
-//! The ladder: what a book's orders come to at each side and price, in a lent
-//! buffer beside the book, and the forms of add, reduce and take that keep it.
+//! The ladder: what a book's orders of one security come to at each side and price,
+//! in a lent buffer beside the book, and the forms of add, reduce and take that keep
+//! it.
 
 use crate::book::{self, Order, Side};
 use crate::{calls, take, Refusal};
@@ -22,10 +23,10 @@ pub struct Row {
     pub orders: u16,
 }
 
-/// Writes the book's ladder, whatever stood in the buffer. Gives the refusal
+/// Writes the ladder of a security, whatever stood in the buffer. Gives the refusal
 /// number.
-pub fn ladder(book: &[u8], ladder: &mut [u8]) -> u32 {
-    match ladder_of(book, ladder.len()) {
+pub fn ladder(book: &[u8], ladder: &mut [u8], security: u32) -> u32 {
+    match ladder_of(book, security, ladder.len()) {
         Ok(bytes) => {
             ladder.copy_from_slice(&bytes);
             0
@@ -35,27 +36,36 @@ pub fn ladder(book: &[u8], ladder: &mut [u8]) -> u32 {
 }
 
 /// Add that keeps the ladder. Takes the numbers that add takes.
-pub fn add_ladder(book: &mut [u8], ladder: &mut [u8], order: [u32; 8]) -> u32 {
-    keeping(book, ladder, |book| calls::add(book, order))
+pub fn add_ladder(book: &mut [u8], ladder: &mut [u8], order: [u32; 9]) -> u32 {
+    let [.., security] = order;
+    keeping(book, ladder, security, |book| calls::add(book, order))
 }
 
 /// Reduce that keeps the ladder.
-pub fn reduce_ladder(book: &mut [u8], ladder: &mut [u8], number: u32, shares: u32) -> u32 {
-    keeping(book, ladder, |book| calls::reduce(book, number, shares))
+pub fn reduce_ladder(
+    book: &mut [u8],
+    ladder: &mut [u8],
+    security: u32,
+    number: u32,
+    shares: u32,
+) -> u32 {
+    keeping(book, ladder, security, |book| {
+        calls::reduce(book, security, number, shares)
+    })
 }
 
-/// Take that keeps the ladder. Takes side, limit, size and algorithm.
+/// Take that keeps the ladder. Takes the numbers that take takes.
 pub fn take_ladder(
     book: &mut [u8],
     executions: &mut [u8],
     ladder: &mut [u8],
-    incoming: [u32; 4],
+    incoming: [u32; 5],
 ) -> (u32, u32, u32) {
-    let [side, limit, size, algorithm] = incoming;
+    let [.., security] = incoming;
     let mut written = executions.to_vec();
     let mut taken = (0, 0, 0);
-    let refusal = keeping(book, ladder, |book| {
-        taken = take::take(book, &mut written, side, limit, size, algorithm);
+    let refusal = keeping(book, ladder, security, |book| {
+        taken = take::take(book, &mut written, incoming);
         taken.0
     });
     if refusal != 0 {
@@ -65,28 +75,33 @@ pub fn take_ladder(
     taken
 }
 
-/// Makes a plain call on a copy of the book. If neither the call nor the ladder
-/// is a reason to refuse, the book becomes that copy, and the ladder the copy's.
-/// The refusals on account of the ladder stand directly behind 2.
-fn keeping(book: &mut [u8], ladder: &mut [u8], plain: impl FnOnce(&mut [u8]) -> u32) -> u32 {
+/// Makes a plain call for a security on a copy of the book. If neither the call nor
+/// the ladder is a reason to refuse, the book becomes that copy, and the ladder the
+/// copy's. The refusals on account of the ladder stand directly behind 2.
+fn keeping(
+    book: &mut [u8],
+    ladder: &mut [u8],
+    security: u32,
+    plain: impl FnOnce(&mut [u8]) -> u32,
+) -> u32 {
     let mut after = book.to_vec();
     let of_call = plain(&mut after);
     if of_call == Refusal::OutOfRange as u32 || of_call == Refusal::UnsoundBook as u32 {
         return of_call;
     }
-    match ladder_of(book, ladder.len()) {
+    match ladder_of(book, security, ladder.len()) {
         Err(refusal) => return refusal as u32,
         Ok(bytes) if bytes != ladder => return Refusal::LadderOfAnotherBook as u32,
         Ok(_) if of_call != 0 => return of_call,
         Ok(_) => {}
     }
     book.copy_from_slice(&after);
-    self::ladder(book, ladder)
+    self::ladder(book, ladder, security)
 }
 
-/// The bytes that a book's ladder has in a buffer of so many.
-fn ladder_of(book: &[u8], length: usize) -> Result<Vec<u8>, Refusal> {
-    let orders = book::read(book)?;
+/// The bytes that a security's ladder has in a buffer of so many.
+fn ladder_of(book: &[u8], security: u32, length: usize) -> Result<Vec<u8>, Refusal> {
+    let orders = book::orders_of(book, security)?;
     if length != LADDER_LENGTH {
         return Err(Refusal::LadderLength);
     }
@@ -97,8 +112,8 @@ fn ladder_of(book: &[u8], length: usize) -> Result<Vec<u8>, Refusal> {
     Ok(bytes)
 }
 
-/// A row for each side and price that an order has: sells with rising price,
-/// then buys with falling price.
+/// A row for each side and price that one of these orders has: sells with rising
+/// price, then buys with falling price.
 pub fn rows(orders: &[Order]) -> Vec<Row> {
     let rank = |order: &Order| match order.side {
         Side::Sell => (1, i64::from(order.price)),

@@ -1,8 +1,8 @@
 //! Order allocation after PSX Rule 3307, written plainly from the rule and its
 //! scope, so that the library can be compared with it: five calls on the bytes
-//! of a lent book, the ladder beside it with a call and three forms of its own,
-//! two calls between the old form of a book and the new one, and the programs
-//! fillsheet and convert.
+//! of a lent book of two securities, the ladder beside it with a call and three
+//! forms of its own, two calls between the old form of a book and the new one, and
+//! the programs fillsheet and convert.
 //!
 //! A book is read into a list of orders, the list is changed, and the whole
 //! book is written anew. Nothing here is meant to be fast, save the module

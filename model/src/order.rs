@@ -3,6 +3,8 @@
 
 pub const HIGHEST_PRICE: u32 = 2_000_000_000;
 pub const LARGEST_SIZE: u32 = 999_999;
+/// Securities are numbered from 0 on.
+pub const SECURITIES: u32 = 2;
 /// Shares in a round lot.
 pub const ROUND_LOT: u32 = 100;
 
@@ -66,14 +68,16 @@ pub struct Order {
     pub size: u32,
     /// Whether the order set its price when it was entered.
     pub setter: bool,
+    /// Orders trade within their security.
+    pub security: u32,
 }
 
 impl Order {
     /// The order with these numbers, without a setter mark, if each of them is
     /// within a record's range. They are side, kind, number, price, size, minimum,
-    /// hidden shares and refresh size.
-    pub fn of_numbers(numbers: [u32; 8]) -> Option<Order> {
-        let [side, kind, number, price, size, minimum, hidden, refresh] = numbers;
+    /// hidden shares, refresh size and security.
+    pub fn of_numbers(numbers: [u32; 9]) -> Option<Order> {
+        let [side, kind, number, price, size, minimum, hidden, refresh, security] = numbers;
         let side = Side::of_number(side)?;
         let kind = match (kind, minimum, hidden, refresh) {
             (1, 0, 0, 0) => Kind::Displayed,
@@ -84,7 +88,10 @@ impl Order {
             }
             _ => return None,
         };
-        let in_range = number >= 1 && price_in_range(price) && size_in_range(size);
+        let in_range = number >= 1
+            && price_in_range(price)
+            && size_in_range(size)
+            && security_in_range(security);
         in_range.then_some(Order {
             side,
             kind,
@@ -92,12 +99,13 @@ impl Order {
             price,
             size,
             setter: false,
+            security,
         })
     }
 
     /// As above, for a new order: a reserve order enters with its refresh size
     /// shown.
-    pub fn of_request(numbers: [u32; 8]) -> Option<Order> {
+    pub fn of_request(numbers: [u32; 9]) -> Option<Order> {
         let order = Order::of_numbers(numbers)?;
         match order.kind {
             Kind::Reserve { refresh, .. } if refresh != order.size => None,
@@ -209,4 +217,8 @@ pub fn price_in_range(price: u32) -> bool {
 
 pub fn size_in_range(size: u32) -> bool {
     (1..=LARGEST_SIZE).contains(&size)
+}
+
+pub fn security_in_range(security: u32) -> bool {
+    security < SECURITIES
 }

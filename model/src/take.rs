@@ -20,6 +20,7 @@ struct Incoming {
     limit: u32,
     size: u32,
     algorithm: Algorithm,
+    security: u32,
 }
 
 /// What one part of a resting order traded, at the order's price.
@@ -32,17 +33,11 @@ pub struct Execution {
     pub shares: u32,
 }
 
-/// The refusal number, the count of executions and the shares left.
-pub fn take(
-    book: &mut [u8],
-    executions: &mut [u8],
-    side: u32,
-    limit: u32,
-    size: u32,
-    algorithm: u32,
-) -> (u32, u32, u32) {
-    let incoming = Incoming::of_numbers(side, limit, size, algorithm);
-    match decide(book, executions.len(), incoming) {
+/// Takes side, limit, size, algorithm and security. Gives the refusal number, the
+/// count of executions and the shares left.
+pub fn take(book: &mut [u8], executions: &mut [u8], incoming: [u32; 5]) -> (u32, u32, u32) {
+    let [_, _, size, ..] = incoming;
+    match decide(book, executions.len(), Incoming::of_numbers(incoming)) {
         Ok((orders, fills)) => {
             book::write(book, &orders);
             write_executions(executions, &fills);
@@ -83,7 +78,8 @@ fn decide(
 }
 
 impl Incoming {
-    fn of_numbers(side: u32, limit: u32, size: u32, algorithm: u32) -> Option<Incoming> {
+    fn of_numbers(numbers: [u32; 5]) -> Option<Incoming> {
+        let [side, limit, size, algorithm, security] = numbers;
         let algorithm = match algorithm {
             1 => Algorithm::PriceTime,
             2 => Algorithm::ProRata,
@@ -91,17 +87,22 @@ impl Incoming {
             _ => return None,
         };
         let side = Side::of_number(side)?;
-        let in_range = book::price_in_range(limit) && book::size_in_range(size);
+        let in_range = book::price_in_range(limit)
+            && book::size_in_range(size)
+            && book::security_in_range(security);
         in_range.then_some(Incoming {
             side,
             limit,
             size,
             algorithm,
+            security,
         })
     }
 
     fn may_trade_with(&self, order: &Order) -> bool {
-        order.side != self.side && self.side.within(self.limit, order.price)
+        order.security == self.security
+            && order.side != self.side
+            && self.side.within(self.limit, order.price)
     }
 }
 

@@ -1,6 +1,7 @@
 //! The scope's cases, its refusals in their order, the readings of the rule that
 //! it rules out, what each paragraph of the rule says, what executions name, the
-//! ladder beside the book, reserve orders, and old books.
+//! ladder beside the book, reserve orders, old books, and two securities in one
+//! book.
 
 mod books;
 mod cases;
@@ -18,6 +19,10 @@ mod readings;
 mod refusals;
 mod reserve_books;
 mod reserves;
+mod securities;
+mod security_entries;
+mod security_ladders;
+mod security_takes;
 mod setters;
 
 use crate::book::{self, Kind, Order, RECORD_LENGTH};
@@ -25,6 +30,8 @@ use crate::book::{self, Kind, Order, RECORD_LENGTH};
 const PRICE: u32 = 100_000;
 const BUY: u32 = 1;
 const SELL: u32 = 2;
+/// The security of a market, where nothing else is said.
+const SECURITY: u32 = 0;
 
 /// A market of one book, made by add, with room for executions.
 #[derive(Clone)]
@@ -70,14 +77,8 @@ impl Market {
         size: u32,
         algorithm: u32,
     ) -> (Vec<(u32, u32, u32)>, u32) {
-        let (refusal, count, left) = crate::take(
-            &mut self.book,
-            &mut self.executions,
-            side,
-            limit,
-            size,
-            algorithm,
-        );
+        let incoming = [side, limit, size, algorithm, SECURITY];
+        let (refusal, count, left) = crate::take(&mut self.book, &mut self.executions, incoming);
         assert_eq!(refusal, 0);
         let fills = crate::read_executions(&self.executions, count);
         let fills = fills
@@ -103,6 +104,11 @@ impl Market {
             .collect()
     }
 
+    /// Takes shares from an order. Gives the refusal number.
+    fn reduce(&mut self, number: u32, shares: u32) -> u32 {
+        crate::reduce(&mut self.book, SECURITY, number, shares)
+    }
+
     fn orders(&self) -> Vec<Order> {
         book::read(&self.book).expect("a sound book")
     }
@@ -120,7 +126,7 @@ impl Market {
 
 /// What add takes for an order written as "D 600", "H 50", "M 500/400" with its
 /// minimum, or "R 100+250/100" with shown shares, hidden shares and refresh size.
-fn described(side: u32, number: u32, price: u32, order: &str) -> [u32; 8] {
+fn described(side: u32, number: u32, price: u32, order: &str) -> [u32; 9] {
     let (letter, numbers) = order.split_once(' ').expect("a letter and a size");
     let (shares, last) = numbers.split_once('/').unwrap_or((numbers, "0"));
     let (size, hidden) = shares.split_once('+').unwrap_or((shares, "0"));
@@ -131,5 +137,7 @@ fn described(side: u32, number: u32, price: u32, order: &str) -> [u32; 8] {
         "M" => (3, last, 0),
         _ => (4, 0, last),
     };
-    [side, kind, number, price, size, minimum, hidden, refresh]
+    [
+        side, kind, number, price, size, minimum, hidden, refresh, SECURITY,
+    ]
 }

@@ -3,6 +3,7 @@
 
 use model::book::{
     self, Kind, Order, HIGHEST_PRICE, LARGEST_SIZE, LONGEST_BOOK, MOST_ORDERS, RECORD_LENGTH,
+    SECURITIES,
 };
 use model::ladder::ROW_LENGTH;
 use model::{fast, LADDER_LENGTH};
@@ -19,6 +20,8 @@ struct Shape {
     /// come.
     kinds: [usize; 4],
     largest: u32,
+    /// How often orders of each security come.
+    securities: [usize; 2],
 }
 
 impl Shape {
@@ -37,6 +40,7 @@ impl Shape {
                 [0, 0, 0, 1],
             ]),
             largest: random.one_of(&[130, 400, 1_000, 1_000, LARGEST_SIZE]),
+            securities: random.one_of(&[[1, 0], [1, 1], [1, 1], [7, 1], [0, 1]]),
         }
     }
 
@@ -51,7 +55,7 @@ impl Shape {
     }
 
     /// The numbers that add takes.
-    fn order(&self, random: &mut Random, number: u32) -> [u32; 8] {
+    fn order(&self, random: &mut Random, number: u32) -> [u32; 9] {
         let side = random.within(1..=2);
         let kind = random.weighted(&self.kinds) as u32 + 1;
         let price = self.price(random);
@@ -61,7 +65,10 @@ impl Shape {
             4 => (0, self.size(random) * random.within(0..=1), size),
             _ => (0, 0, 0),
         };
-        [side, kind, number, price, size, minimum, hidden, refresh]
+        let security = random.weighted(&self.securities) as u32;
+        [
+            side, kind, number, price, size, minimum, hidden, refresh, security,
+        ]
     }
 
     /// A sound book, the marks of which may be where add sets none, and the refresh
@@ -78,7 +85,8 @@ impl Shape {
                 *refresh = random.one_of(&[order.size, another]);
             }
             let rival = |other: &Order| {
-                other.setter && (other.side, other.price) == (order.side, order.price)
+                let level = |order: &Order| (order.security, order.side, order.price);
+                other.setter && level(other) == level(&order)
             };
             order.setter =
                 order.is_displayed() && random.once_in(marks) && !orders.iter().any(rival);
@@ -93,7 +101,7 @@ impl Shape {
 
 /// Spoils a book, most times.
 fn damage(random: &mut Random, book: &mut Vec<u8>) {
-    match random.below(8) {
+    match random.below(9) {
         0 => book.resize(book.len() + random.one_of(&[1, 8, 32, 39, 40, 41]), 0),
         1 => book.resize(LONGEST_BOOK + random.one_of(&[1, 32, 40, 4_096]), 0),
         2 if book.len() >= 2 * RECORD_LENGTH => {
@@ -105,6 +113,10 @@ fn damage(random: &mut Random, book: &mut Vec<u8>) {
         3 => {
             let records = book.chunks_exact_mut(RECORD_LENGTH);
             records.for_each(|record| record[20] = u8::from([1, 4].contains(&record[3])));
+        }
+        4 if !book.is_empty() => {
+            let place = random.below(book.len() / RECORD_LENGTH);
+            book[place * RECORD_LENGTH + 21] ^= random.one_of(&[1, 1, 2, 3, 255]);
         }
         _ if book.is_empty() => book.push(0),
         _ => {
@@ -119,6 +131,7 @@ fn mostly(random: &mut Random, number: u32) -> u32 {
     let edges = [
         0,
         1,
+        2,
         4,
         LARGEST_SIZE + 1,
         HIGHEST_PRICE,
@@ -145,36 +158,48 @@ impl Known {
         Known { orders, one }
     }
 
-    fn find(&self, random: &mut Random) -> u32 {
-        mostly(random, self.one.map_or(1, |order| order.number))
+    /// A security: mostly that of the one order.
+    fn security(&self, random: &mut Random) -> u32 {
+        let any = random.within(0..=SECURITIES - 1);
+        let own = self.one.map_or(any, |order| order.security);
+        let security = random.one_of(&[own, own, own, any]);
+        mostly(random, security)
+    }
+
+    /// Security and number.
+    fn find(&self, random: &mut Random) -> [u32; 2] {
+        let number = mostly(random, self.one.map_or(1, |order| order.number));
+        [self.security(random), number]
     }
 
     /// The numbers that add takes.
-    fn add(&self, random: &mut Random, shape: &Shape) -> [u32; 8] {
+    fn add(&self, random: &mut Random, shape: &Shape) -> [u32; 9] {
         let last = self.orders.last().map_or(0, |order| order.number);
         let order = shape.order(random, last.saturating_add(1));
         order.map(|number| mostly(random, number))
     }
 
-    /// Number and shares.
-    fn reduce(&self, random: &mut Random) -> [u32; 2] {
+    /// Security, number and shares.
+    fn reduce(&self, random: &mut Random) -> [u32; 3] {
         let (number, size, hidden) = self.one.map_or((1, 1, 0), |order| {
             (order.number, order.size, order.hidden())
         });
         let all = size + hidden;
         let shares = [1, size, size / 2 + 1, hidden, hidden + 1, all, all + 1];
         let shares = random.one_of(&shares).clamp(1, LARGEST_SIZE);
-        [number, shares].map(|number| mostly(random, number))
+        let [number, shares] = [number, shares].map(|number| mostly(random, number));
+        [self.security(random), number, shares]
     }
 
-    /// Side, limit, size and algorithm.
-    fn take(&self, random: &mut Random, shape: &Shape) -> [u32; 4] {
+    /// Side, limit, size, algorithm and security.
+    fn take(&self, random: &mut Random, shape: &Shape) -> [u32; 5] {
         let total: u32 = self.orders.iter().map(Order::shares).sum();
         let part = random.within(1..=total.clamp(1, LARGEST_SIZE));
         let size = random.one_of(&[part, part / 2 + 1, part / 8 + 1, shape.largest, 99]);
         let (side, limit) = (random.within(1..=2), shape.price(random));
         let algorithm = random.within(1..=3);
-        [side, limit, size, algorithm].map(|number| mostly(random, number))
+        let security = self.security(random);
+        [side, limit, size, algorithm, security].map(|number| mostly(random, number))
     }
 }
 
@@ -188,28 +213,32 @@ fn agree(random: &mut Random, shape: &Shape, book: &mut Vec<u8>) {
     let known = Known::of(random, book);
     let mut fast_book = book.clone();
     match random.weighted(&[1, 2, 3, 3, 6]) {
-        0 => assert_eq!(model::check(book), fast::check(book)),
+        0 => {
+            let security = known.security(random);
+            assert_eq!(model::check(book, security), fast::check(book, security));
+        }
         1 => {
-            let number = known.find(random);
-            assert_eq!(model::find(book, number), fast::find(book, number));
+            let [security, number] = known.find(random);
+            let plain = model::find(book, security, number);
+            assert_eq!(plain, fast::find(book, security, number));
         }
         2 => {
             let order = known.add(random, shape);
             assert_eq!(model::add(book, order), fast::add(&mut fast_book, order));
         }
         3 => {
-            let [number, shares] = known.reduce(random);
-            let plain = model::reduce(book, number, shares);
-            assert_eq!(plain, fast::reduce(&mut fast_book, number, shares));
+            let [security, number, shares] = known.reduce(random);
+            let plain = model::reduce(book, security, number, shares);
+            let fast = fast::reduce(&mut fast_book, security, number, shares);
+            assert_eq!(plain, fast);
         }
         _ => {
-            let [side, limit, size, algorithm] = known.take(random, shape);
+            let incoming = known.take(random, shape);
             let mut buffer = execution_buffer(random);
             let mut fast_buffer = buffer.clone();
-            let fast = &mut fast_book;
-            let plain = model::take(book, &mut buffer, side, limit, size, algorithm);
-            let fast = fast::take(fast, &mut fast_buffer, side, limit, size, algorithm);
-            assert_eq!(plain, fast, "{side} {limit} {size} {algorithm}");
+            let plain = model::take(book, &mut buffer, incoming);
+            let fast = fast::take(&mut fast_book, &mut fast_buffer, incoming);
+            assert_eq!(plain, fast, "{incoming:?}");
             assert_eq!(buffer, fast_buffer);
         }
     }
@@ -226,20 +255,34 @@ struct Lent {
 
 #[derive(Clone, Copy, Debug)]
 enum Form {
-    New,
-    Add([u32; 8]),
-    Reduce([u32; 2]),
-    Take([u32; 4]),
+    New([u32; 1]),
+    Add([u32; 9]),
+    Reduce([u32; 3]),
+    Take([u32; 5]),
 }
 
 impl Form {
-    fn random(random: &mut Random, shape: &Shape, book: &[u8]) -> Form {
+    /// A form, mostly for the security whose ladder is kept.
+    fn random(random: &mut Random, shape: &Shape, book: &[u8], security: u32) -> Form {
         let known = Known::of(random, book);
-        match random.weighted(&[1, 3, 3, 4]) {
-            0 => Form::New,
+        let mut form = match random.weighted(&[1, 3, 3, 4]) {
+            0 => Form::New([security]),
             1 => Form::Add(known.add(random, shape)),
             2 => Form::Reduce(known.reduce(random)),
             _ => Form::Take(known.take(random, shape)),
+        };
+        if !random.once_in(8) {
+            *form.security() = security;
+        }
+        form
+    }
+
+    fn security(&mut self) -> &mut u32 {
+        match self {
+            Form::New([security])
+            | Form::Add([.., security])
+            | Form::Reduce([security, ..])
+            | Form::Take([.., security]) => security,
         }
     }
 
@@ -251,10 +294,11 @@ impl Form {
             ladder,
         } = lent;
         match self {
-            Form::New => (model::ladder(book, ladder), 0, 0),
+            Form::New([security]) => (model::ladder(book, ladder, security), 0, 0),
             Form::Add(order) => (model::add_ladder(book, ladder, order), 0, 0),
-            Form::Reduce([number, shares]) => {
-                (model::reduce_ladder(book, ladder, number, shares), 0, 0)
+            Form::Reduce([security, number, shares]) => {
+                let refusal = model::reduce_ladder(book, ladder, security, number, shares);
+                (refusal, 0, 0)
             }
             Form::Take(incoming) => model::take_ladder(book, executions, ladder, incoming),
         }
@@ -264,10 +308,11 @@ impl Form {
     fn fast(self, lent: &mut Lent) -> (u32, u32, u32) {
         let (book, ladder) = (&mut lent.book[..], &mut lent.ladder[..]);
         match self {
-            Form::New => (fast::ladder(book, ladder), 0, 0),
+            Form::New([security]) => (fast::ladder(book, ladder, security), 0, 0),
             Form::Add(order) => (fast::add_ladder(book, ladder, order), 0, 0),
-            Form::Reduce([number, shares]) => {
-                (fast::reduce_ladder(book, ladder, number, shares), 0, 0)
+            Form::Reduce([security, number, shares]) => {
+                let refusal = fast::reduce_ladder(book, ladder, security, number, shares);
+                (refusal, 0, 0)
             }
             Form::Take(incoming) => fast::take_ladder(book, &mut lent.executions, ladder, incoming),
         }
@@ -284,10 +329,10 @@ fn agree_with_ladder(form: Form, lent: &mut Lent) -> u32 {
     plain.0
 }
 
-/// The ladder of a book, or zeros beside an unsound one.
-fn new_ladder(book: &[u8]) -> Vec<u8> {
+/// The ladder of a security, or zeros beside an unsound book.
+fn new_ladder(book: &[u8], security: u32) -> Vec<u8> {
     let mut ladder = vec![0; LADDER_LENGTH];
-    model::ladder(book, &mut ladder);
+    model::ladder(book, &mut ladder, security);
     ladder
 }
 
@@ -332,13 +377,14 @@ fn agree_on_ladders(stream: u64, books: u32, spoilt: bool) {
         if spoilt {
             damage(&mut random, &mut book);
         }
+        let security = random.within(0..=SECURITIES - 1);
         let mut lent = Lent {
-            ladder: new_ladder(&book),
+            ladder: new_ladder(&book, security),
             executions: Vec::new(),
             book,
         };
         for _ in 0..6 {
-            let form = Form::random(&mut random, &shape, &lent.book);
+            let form = Form::random(&mut random, &shape, &lent.book, security);
             lent.executions = execution_buffer(&mut random);
             if random.once_in(5) {
                 let mut wrong = lent.clone();
@@ -360,8 +406,8 @@ fn fast_and_plain_keep_ladders_of_damaged_books() {
     agree_on_ladders(5, 2_000, true);
 }
 
-/// A full book whose orders have so many prices, and its ladder: of one side, or
-/// buys and sells by turns, in no order.
+/// A full book of security 1 whose orders have so many prices, and its ladder: of one
+/// side, or buys and sells by turns, in no order.
 fn full_ladder(levels: u32, sides: [u32; 2]) -> Lent {
     let orders: Vec<Order> = (0..MOST_ORDERS as u32)
         .map(|place| {
@@ -370,14 +416,14 @@ fn full_ladder(levels: u32, sides: [u32; 2]) -> Lent {
             let kinds = [[1, 0, 0, 0], [2, 0, 0, 0], [3, 40, 0, 0], [4, 0, 70, 50]];
             let [kind, minimum, hidden, refresh] = kinds[place as usize % 4];
             let (number, size) = (place + 1, 100 + place);
-            Order::of_numbers([side, kind, number, price, size, minimum, hidden, refresh])
+            Order::of_numbers([side, kind, number, price, size, minimum, hidden, refresh, 1])
                 .expect("numbers within their ranges")
         })
         .collect();
     let mut book = vec![0; LONGEST_BOOK];
     book::write(&mut book, &orders);
     Lent {
-        ladder: new_ladder(&book),
+        ladder: new_ladder(&book, 1),
         executions: vec![0xEE; 8_192],
         book,
     }
@@ -392,16 +438,16 @@ fn fast_and_plain_keep_full_ladders() {
             for place in 0..MOST_ORDERS as u32 {
                 let mut lent = full.clone();
                 let [number, size] = [place + 1, 100 + place];
-                let reduce = Form::Reduce([number, size]);
+                let reduce = Form::Reduce([1, number, size]);
                 assert_eq!(agree_with_ladder(reduce, &mut lent), 0);
                 let price = 100_000 + place * 161 % levels;
                 let side = sides[place as usize % 2];
-                let add = Form::Add([side, 2, 300, price, 50, 0, 0, 0]);
+                let add = Form::Add([side, 2, 300, price, 50, 0, 0, 0, 1]);
                 agree_with_ladder(add, &mut lent);
                 let taker = 3 - sides[place as usize % 2];
                 let limit = [100_300, 1][taker as usize - 1];
                 let shares = place * 217 + 1;
-                let take = Form::Take([taker, limit, shares, place % 3 + 1]);
+                let take = Form::Take([taker, limit, shares, place % 3 + 1, 1]);
                 assert_eq!(agree_with_ladder(take, &mut lent), 0);
             }
         }
@@ -419,14 +465,14 @@ fn fast_and_plain_agree_on_damaged_books() {
 }
 
 /// One take by both, on copies of the same book.
-fn agree_on_size(book: &[u8], side: u32, limit: u32, size: u32, algorithm: u32) {
+fn agree_on_take(book: &[u8], incoming: [u32; 5]) {
     let mut copies = [book.to_vec(), book.to_vec()];
     let mut executions = [vec![0xEE; 8_192], vec![0xEE; 8_192]];
     let [plain, fast] = &mut copies;
     let [first, second] = &mut executions;
-    let plain = model::take(plain, first, side, limit, size, algorithm);
-    let fast = fast::take(fast, second, side, limit, size, algorithm);
-    assert_eq!(plain, fast, "{side} {limit} {size} {algorithm}");
+    let plain = model::take(plain, first, incoming);
+    let fast = fast::take(fast, second, incoming);
+    assert_eq!(plain, fast, "{incoming:?}");
     assert_eq!(copies[0], copies[1]);
     assert_eq!(executions[0], executions[1]);
 }
@@ -441,11 +487,12 @@ fn fast_and_plain_agree_on_every_size_of_an_incoming_order() {
             lowest: 100_000,
             kinds: [1, 1, 0, 1],
             largest,
+            securities: [3, 1],
         };
         let book = shape.book(&mut random, 24, 0);
         for size in 1..2_000 {
             for algorithm in 1..=3 {
-                agree_on_size(&book, 1, 200_000, size, algorithm);
+                agree_on_take(&book, [1, 200_000, size, algorithm, 0]);
             }
         }
     }
@@ -522,12 +569,14 @@ fn fast_and_plain_agree_on_telling_books() {
                     _ => (third, 0, 0),
                 };
                 let [number, price] = [place as u32 + 1, 100_000];
-                let order = [resting, kind, number, price, size, minimum, hidden, refresh];
+                let order = [
+                    resting, kind, number, price, size, minimum, hidden, refresh, 0,
+                ];
                 assert_eq!(model::add(&mut book, order), 0);
             }
             for size in 1..=total + 1 {
                 for algorithm in 1..=3 {
-                    agree_on_size(&book, incoming, 100_000, size, algorithm);
+                    agree_on_take(&book, [incoming, 100_000, size, algorithm, 0]);
                 }
             }
         }

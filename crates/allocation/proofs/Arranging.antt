@@ -87,7 +87,7 @@ sorted-ascends (k ∷ keys) d = insert-ascends k (sorted keys) (sorted-every (λ
 
 module _ (lot : ℕ) (alg : Algorithm) (i : Incoming) (at : ℕ → Order) where
   abbrev Key : ℕ → ℕ → Type 0
-  Key n = Stands at n lot alg (i .taker .side)
+  Key n = Stands at n lot alg (i .taker)
 
   -- the parts of a book's orders, in the order of the records: each stands for one, from a place on
   from-stands : (p n : ℕ) (os : List Order) → Beside at p os → Every OrderSound os → p + length os ≡ n → n ≤ 512
@@ -168,7 +168,7 @@ module _ (lot : ℕ) (alg : Algorithm) (i : Incoming) (at : ℕ → Order) where
 
   -- those that are needed, sorted
   pub arranged-ready : (os : List Order) → Beside at 0 os → Every OrderSound os → length os ≤ 256 → {keys : List ℕ} → Arranged lot alg i os keys
-      → Ready at (length os) lot alg (i .taker .side) keys
+      → Ready at (length os) lot alg (i .taker) keys
   arranged-ready os b s few a = rw (a .inOrder) (go (a .narrowed))
     where
       all : List ℕ
@@ -180,10 +180,10 @@ module _ (lot : ℕ) (alg : Algorithm) (i : Incoming) (at : ℕ → Order) where
       differ : Distinct all
       differ = from-distinct 0 (length os) os b s (omega arith) (omega arith)
 
-      ready : (ks : List ℕ) → Every (Key (length os)) ks → Distinct ks → Ready at (length os) lot alg (i .taker .side) (sorted ks)
+      ready : (ks : List ℕ) → Every (Key (length os)) ks → Distinct ks → Ready at (length os) lot alg (i .taker) (sorted ks)
       ready ks e d = record { each = sorted-every (Key (length os)) ks e; ascend = sorted-ascends ks d }
 
-      go : {ks : List ℕ} → Narrowed alg (i .size .0) all ks → Ready at (length os) lot alg (i .taker .side) (sorted ks)
+      go : {ks : List ℕ} → Narrowed alg (i .size .0) all ks → Ready at (length os) lot alg (i .taker) (sorted ks)
       go Narrowed.all = ready all each differ
       go (Narrowed.best rank e f) =
           ready (filter (ofRank rank) all) (every-filter (Key (length os)) (ofRank rank) all each) (distinct-filter (ofRank rank) all differ)

@@ -71,7 +71,7 @@ maps-within f g [] a i = omega arith
 maps-within f g (k ∷ keys) a zero = a .0
 maps-within f g (k ∷ keys) a (suc i) = maps-within f g keys (a .1) i
 
-module _ {s : List ℕ} {lot : ℕ} {alg : Algorithm} (t : Taker) (first : ℕ) (others : List ℕ) (bk : Book s lot alg (t .side) (first ∷ others))
+module _ {s : List ℕ} {lot : ℕ} {alg : Algorithm} (t : Taker) (first : ℕ) (others : List ℕ) (bk : Book s lot alg t (first ∷ others))
     (e : Every (λ k. groupIn k ≡ groupIn first) others) where
   abbrev keys : List ℕ
   keys = first ∷ others
@@ -142,8 +142,8 @@ module _ {s : List ℕ} {lot : ℕ} {alg : Algorithm} (t : Taker) (first : ℕ) 
   bounded left = stretch-filled lot alg t at (ordersOf s) os few (book-beside s) first others (bk .ready) e (bk .hasLot) left .within
 
 -- The keys of a group with more than the shares left.
-module _ {s keys : List ℕ} {lot : ℕ} {alg : Algorithm} (t : Taker) (bk : Book s lot alg (t .side) keys) {left : ℕ} (sh : Shared keys left) where
-  bk′ : Book s lot alg (t .side) (sh .first ∷ sh .others)
+module _ {s keys : List ℕ} {lot : ℕ} {alg : Algorithm} (t : Taker) (bk : Book s lot alg t keys) {left : ℕ} (sh : Shared keys left) where
+  bk′ : Book s lot alg t (sh .first ∷ sh .others)
   bk′ = rw (sh .are) at bk
 
   -- what the paragraph gives them

@@ -14,7 +14,6 @@ use Rattle.units.proofs.Totals.{total-append, total-map}
 use Rattle.units.proofs.Members.{Every, every-split}
 use Rattle.sharing.specs.Rank.{Part, partSize}
 use Rattle.sharing.proofs.Filled.{Met, Each}
-use Rattle.orders.specs.declared.order.Side.{Side}
 use Rattle.orders.specs.declared.order.Order.{Order}
 use Rattle.orders.specs.declared.order.Taker.{Taker}
 use Rattle.orders.specs.Order.{Visibility, shown, hidden, sharesOf, interestOf, isMinimumQuantity}
@@ -61,11 +60,11 @@ ascending-split (k ∷ keys) later a =
     let r = ascending-split keys later (a .1) in
     ((every-split (λ q. k < q) keys later (a .0) .0, r .0), r .1)
 
-module _ {at : ℕ → Order} {n lot : ℕ} {alg : Algorithm} {side : Side} where
-  pub ready-split : (keys later : List ℕ) → Ready at n lot alg side (keys ++ later)
-      → Ready at n lot alg side keys × Ready at n lot alg side later
+module _ {at : ℕ → Order} {n lot : ℕ} {alg : Algorithm} {t : Taker} where
+  pub ready-split : (keys later : List ℕ) → Ready at n lot alg t (keys ++ later)
+      → Ready at n lot alg t keys × Ready at n lot alg t later
   ready-split keys later r =
-      let e = every-split (Stands at n lot alg side) keys later (r .each) in
+      let e = every-split (Stands at n lot alg t) keys later (r .each) in
       let a = ascending-split keys later (r .ascend) in
       (record { each = e .0; ascend = a .0 }, record { each = e .1; ascend = a .1 })
 
@@ -91,7 +90,7 @@ free-none alg group e (k ∷ keys) a = rw (a .0, e, zero-add) (free-none alg gro
 module _ (lot : ℕ) (hasLot : 0 < lot) (alg : Algorithm) (t : Taker) (at : ℕ → Order) (os : List Order) (s : OrdersSound os) (few : length os ≤ 256)
     (b : Beside at 0 os) where
   abbrev Rest : List ℕ → Type 0
-  Rest = Ready at (length os) lot alg (t .side)
+  Rest = Ready at (length os) lot alg t
 
   module _ (first : ℕ) (keys : List ℕ) (r : Rest (first ∷ keys)) (e : Every (λ k. groupIn k ≡ groupIn first) keys) (left : ℕ) where
     abbrev shared : List ℕ

@@ -117,7 +117,7 @@ module _ (lot : ℕ) (hasLot : 0 < lot) (alg : Algorithm) (i : Incoming) (at : �
   -- The keys that it needs, in their order, and what they get.
   module _ {keys gets : List ℕ} (a : Arranged lot alg i os keys) (w : Walks at lot alg keys size gets) where
     -- each stands for a part
-    ready : Ready at (length os) lot alg (t .side) keys
+    ready : Ready at (length os) lot alg t keys
     ready = arranged-ready lot alg i at os b (s .each) few a
 
     within : Every (λ k. List·Memᴰ (groupIn k) (map (numberOf (t .side)) (cells lot alg i os (s .each)))) keys

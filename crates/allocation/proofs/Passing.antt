@@ -47,7 +47,7 @@ split k (q ∷ keys) h a = go (decLt (groupIn k) (groupIn q)) (split k keys (h .
 module _ (lot : ℕ) (hasLot : 0 < lot) (alg : Algorithm) (t : Taker) (at : ℕ → Order) (os : List Order) (s : OrdersSound os) (few : length os ≤ 256)
     (b : Beside at 0 os) where
   abbrev Rest : List ℕ → Type 0
-  Rest = Ready at (length os) lot alg (t .side)
+  Rest = Ready at (length os) lot alg t
 
   abbrev Goes : List ℕ → ℕ → List ℕ → Type 0
   Goes = Walks at lot alg

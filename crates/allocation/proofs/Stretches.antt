@@ -64,7 +64,7 @@ beside-rise at p m (o ∷ os) b r (suc j) (suc k) h l =
 
 module _ (lot : ℕ) (alg : Algorithm) (t : Taker) (at : ℕ → Order) (os : List Order) (s : OrdersSound os) (few : length os ≤ 256) (b : Beside at 0 os) where
   abbrev Key : ℕ → Type 0
-  Key = Stands at (length os) lot alg (t .side)
+  Key = Stands at (length os) lot alg t
 
   abbrev orderOf : ℕ → Order
   orderOf k = at (placeIn k)
@@ -156,7 +156,7 @@ module _ (lot : ℕ) (alg : Algorithm) (t : Taker) (at : ℕ → Order) (os : Li
       rw (zero-add (placeIn k), zero-add (placeIn q)) at (beside-rise at 0 0 os b (s .rise) (placeIn k) (placeIn q) (place-rise k q w v e h) (v .within))
 
   -- Some keys of one group.
-  module _ (first : ℕ) (keys : List ℕ) (r : Ready at (length os) lot alg (t .side) (first ∷ keys)) (e : Every (λ k. groupIn k ≡ groupIn first) keys) where
+  module _ (first : ℕ) (keys : List ℕ) (r : Ready at (length os) lot alg t (first ∷ keys)) (e : Every (λ k. groupIn k ≡ groupIn first) keys) where
     abbrev all : List ℕ
     all = first ∷ keys
 

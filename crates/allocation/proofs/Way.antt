@@ -76,11 +76,11 @@ module _ (s keys : List ℕ) (lot : ℕ) (alg : Algorithm) (t : Taker) (start : 
     comes = λ more w. w;
   }
 
-  module _ (bk : Book s lot alg (t .side) keys) where
-    ready-from : (k : ℕ) → Ready (orderAt s) (length (ordersOf s)) lot alg (t .side) (drop k keys)
+  module _ (bk : Book s lot alg t keys) where
+    ready-from : (k : ℕ) → Ready (orderAt s) (length (ordersOf s)) lot alg t (drop k keys)
     ready-from k = ready-split (take k keys) (drop k keys) (rw (sym (take-append-drop k keys)) at (bk .ready)) .1
 
-    ready-slice : (k n : ℕ) → Ready (orderAt s) (length (ordersOf s)) lot alg (t .side) (take n (drop k keys))
+    ready-slice : (k n : ℕ) → Ready (orderAt s) (length (ordersOf s)) lot alg t (take n (drop k keys))
     ready-slice k n = ready-split (take n (drop k keys)) (drop n (drop k keys)) (rw (sym (take-append-drop n (drop k keys))) at (ready-from k)) .0
 
     -- some keys more, which get these shares
@@ -165,7 +165,7 @@ module _ (s keys : List ℕ) (lot : ℕ) (alg : Algorithm) (t : Taker) (start : 
       pub slice-shared : {left : ℕ} → 0 < left → left < total sharesIn slice → Shared slice left
       slice-shared p m = record { first = first; others = others; are = slice-are; same = others-same; some = p; more = m }
 
-      pub slice-book : Book s lot alg (t .side) slice
+      pub slice-book : Book s lot alg t slice
       slice-book = record {
         isSound = bk .isSound;
         hasLot = bk .hasLot;
@@ -248,7 +248,7 @@ module _ (s keys : List ℕ) (lot : ℕ) (alg : Algorithm) (t : Taker) (start : 
     room-slice {at} w n = room-front (take n (drop at keys)) (drop n (drop at keys)) (rw (take-append-drop n (drop at keys)) (w .room))
 
     -- every key has shares
-    some-shares : (ks : List ℕ) → Every (Stands (orderAt s) (length (ordersOf s)) lot alg (t .side)) ks → Every (λ k. 0 < sharesIn k) ks
+    some-shares : (ks : List ℕ) → Every (Stands (orderAt s) (length (ordersOf s)) lot alg t) ks → Every (λ k. 0 < sharesIn k) ks
     some-shares ks a =
         every-weaken (λ k x.
         let f = sound-fits s (bk .isSound) .1 in

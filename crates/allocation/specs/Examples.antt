@@ -15,7 +15,9 @@ use Rattle.sharing.specs.declared.Method.the-variants.{InTurn, Lots, Setter}
 use Rattle.sharing.specs.Rank.{Part}
 use Rattle.sharing.specs.Round.{goesRound, round}
 use Rattle.sharing.specs.Lots.{lotSharing}
+use Rattle.orders.specs.declared.order.Side.{Side}
 use Rattle.orders.specs.declared.order.Side.the-variants.{Buy, Sell}
+use Rattle.orders.specs.declared.order.Taker.{Taker}
 use Rattle.orders.specs.declared.order.Kind.{Kind}
 use Rattle.orders.specs.declared.order.Kind.the-variants.{Displayed, MinimumQuantity}
 use Rattle.orders.specs.declared.order.Order.{Order}
@@ -42,6 +44,7 @@ order kind number price size setter = record {
   price = record { 0 = price };
   size = record { 0 = size };
   setter = setter;
+  security = 0;
 }
 
 -- two displayed sells, the second of which set the price, and at the next price one with a minimum of 50
@@ -100,7 +103,7 @@ values-worked = refl
 -- a buy of so many shares that has so many fills, in memory with these
 abbrev kept : ℕ → ℕ → List ℕ → List ℕ → List ℕ → Ledger
 kept left count fills ss hs =
-    ledger (record { incoming = record { taker = record { side = Buy; limit = record { 0 = 100100 } }; size = record { 0 = left } }; count = count }) fills ss hs
+    ledger (record { incoming = record { taker = record { side = Buy; limit = record { 0 = 100100 }; security = 0 }; size = record { 0 = left } }; count = count }) fills ss hs
 
 -- executions: of each the number, price, shares and paragraph
 told : List Execution → List ℕ
@@ -264,8 +267,12 @@ ascending = ((omega arith, (omega arith, tt)), ((omega arith, tt), (tt, tt)))
 not-ascending : (Ascending (second ∷ first ∷ []) → ⊥) × (Ascending (1 ∷ 3 ∷ 1 ∷ []) → ⊥)
 not-ascending = (λ h. omega (arith, h .0 .0), λ h. omega (arith, h .0 .1 .0))
 
+-- a taker of a security and side
+abbrev taker : ℕ → Side → Taker
+taker security side = record { side = side; limit = record { 0 = 100100 }; security = security }
+
 -- a key is that of an order for a taker of the other side, of one of the first n records, with its own shares
-stands : Every (Stands at 3 100 ProRata Buy) parts
+stands : Every (Stands at 3 100 ProRata (taker 0 Buy)) parts
 unfolding book order bookOf encode decode numbersOf orderOf
 stands = (
   record { within = omega arith; opposite = refl; visibility = shown; some = omega arith; is = refl },
@@ -275,14 +282,19 @@ stands = (
   ),
 )
 
-same-side : Stands at 3 100 ProRata Sell (keyOf 4294867295 2 0 300) → ⊥
+same-side : Stands at 3 100 ProRata (taker 0 Sell) (keyOf 4294867295 2 0 300) → ⊥
 unfolding book order bookOf encode decode numbersOf orderOf
 same-side h = false≢true (h .opposite)
 
-behind-all : Stands at 2 100 ProRata Buy third → ⊥
+-- nor for one of another security
+other-security : Stands at 3 100 ProRata (taker 1 Buy) (keyOf 100000 2 0 300) → ⊥
+unfolding book order bookOf encode decode numbersOf orderOf
+other-security h = false≢true (h .opposite)
+
+behind-all : Stands at 2 100 ProRata (taker 0 Buy) third → ⊥
 behind-all h = omega (arith, h .within)
 
-other-shares : Stands at 3 100 ProRata Buy (keyOf 100000 2 0 299) → ⊥
+other-shares : Stands at 3 100 ProRata (taker 0 Buy) (keyOf 100000 2 0 299) → ⊥
 unfolding book order bookOf encode decode numbersOf orderOf
 other-shares h = go (h .visibility) (h .some) (h .is)
   where
@@ -291,7 +303,7 @@ other-shares h = go (h .visibility) (h .some) (h .is)
     go hidden s e = omega arith
 
 -- nor is one of no shares
-no-shares : Stands at 3 100 ProRata Buy (keyOf 100000 6 0 0) → ⊥
+no-shares : Stands at 3 100 ProRata (taker 0 Buy) (keyOf 100000 6 0 0) → ⊥
 unfolding book order bookOf encode decode numbersOf orderOf
 no-shares h = go (h .visibility) (h .some) (h .is)
   where
@@ -300,11 +312,11 @@ no-shares h = go (h .visibility) (h .some) (h .is)
     go hidden s e = omega arith
 
 -- the parts of the book
-of-book : Book book 100 ProRata Buy parts
+of-book : Book book 100 ProRata (taker 0 Buy) parts
 unfolding book order bookOf sound ordersOf encode decode numbersOf orderOf numbersSound newTells
 of-book = record { isSound = refl; hasLot = omega arith; ready = record { each = stands; ascend = ascending }; few = omega arith }
 
-no-lot : Book book 0 ProRata Buy parts → ⊥
+no-lot : Book book 0 ProRata (taker 0 Buy) parts → ⊥
 no-lot h = omega (arith, h .hasLot)
 
 -- columns beside two parts, and columns that are longer or too short

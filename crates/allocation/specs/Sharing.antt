@@ -9,7 +9,7 @@ use Rattle.units.proofs.Members.{Every}
 use Rattle.sharing.specs.declared.Method.{Method}
 use Rattle.sharing.specs.declared.Method.the-variants.{InTurn, Lots, Setter}
 use Rattle.sharing.specs.Rank.{Part}
-use Rattle.orders.specs.declared.order.Side.{Side}
+use Rattle.orders.specs.declared.order.Taker.{Taker}
 use Rattle.book.specs.Sound.{sound, ordersOf, orderAt}
 use Rattle.matching.specs.declared.Algorithm.{Algorithm}
 use Rattle.parts.specs.Key.{groupIn, sharesIn}
@@ -19,10 +19,10 @@ use Rattle.allocation.specs.Credit.{Ledger, leftIn, Credited}
 use Rattle.allocation.specs.Ready.{Ready}
 
 -- keys of a sound book's orders, in their order, and a lot
-pub record Book (s : List ℕ) (lot : ℕ) (alg : Algorithm) (side : Side) (keys : List ℕ) : Type 0 where
+pub record Book (s : List ℕ) (lot : ℕ) (alg : Algorithm) (t : Taker) (keys : List ℕ) : Type 0 where
   pub isSound : sound s ≡ true
   pub hasLot : 0 < lot
-  pub ready : Ready (orderAt s) (length (ordersOf s)) lot alg side keys
+  pub ready : Ready (orderAt s) (length (ordersOf s)) lot alg t keys
   pub few : length keys ≤ 512
 
 -- the minimum of a part

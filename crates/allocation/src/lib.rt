@@ -31,7 +31,7 @@ pub fn allocate(
     shown: &mut [u32],
     hidden: &mut [u32],
 ) -> Progress
-    requires { ⌜ Book (now book) (lot .0) algorithm (incoming .taker .side) (now keys)
+    requires { ⌜ Book (now book) (lot .0) algorithm (incoming .taker) (now keys)
         × Lent (now keys) (now sizes) (now minimums) (now gets)
         × Room (now keys) (ledger (record { incoming = incoming; count = 0 }) (now fills) (now shown) (now hidden)) ⌝ }
     ensures { λ r. ⌜ Walked (now (book .entry)) (now (keys .entry)) (lot .0) algorithm

@@ -97,7 +97,7 @@ pub(crate) fn share(
     shown: &mut [u32],
     hidden: &mut [u32],
 ) -> Progress
-    requires { ⌜ Book (now book) (lot .0) algorithm (from .incoming .taker .side) (now keys)
+    requires { ⌜ Book (now book) (lot .0) algorithm (from .incoming .taker) (now keys)
         × Columns (now keys) (now sizes) (now minimums) (now gets)
         × Shared (now keys) (from .incoming .size .0)
         × Room (now keys) (ledger from (now fills) (now shown) (now hidden)) ⌝ }

@@ -1,4 +1,4 @@
--- Soundness in the parts that check looks at, by the number of orders that it counts, and what its answer says.
+-- Soundness in the parts that are looked at, by the number of records in use; what is known of a book that was looked at; and check, way by way.
 use Prim.Native.Nat.{ℕ, zero, suc, _+_, _*_, _%_, _≤_}
 use mathlib.Core.Path.{_≡_, refl, sym, ap, _∙_}
 use mathlib.Core.Bool.{Bool, true, false, cond, not, _&&_}
@@ -13,10 +13,12 @@ use Rattle.units.specs.Lists.{all, isZero}
 use Rattle.units.proofs.Tests.{and-true}
 use Rattle.units.proofs.Members.{all-append}
 use Rattle.record.specs.Record.{OrderForm, orderBytes, decodeOrder, recordSound}
-use Rattle.book.specs.declared.Checked.{Checked}
+use Rattle.orders.specs.Order.{securityInRange}
+use Rattle.book.specs.declared.Occupancy.{Occupancy}
 use Rattle.book.specs.Sound.{mostOrders, form, recordBytes, rising, settersSound, isUnused, occupied, behind}
 use Rattle.book.specs.Sound.{firstRecords, recordsIn, capacityIn, soundIn, firstOrdersIn, sound, ordersOf, firstOrders}
-use Rattle.book.specs.Lookup.{checkCall}
+use Rattle.book.specs.Occupancy.{occupancyOf}
+use Rattle.book.specs.Lookup.{ordersFor, checkCall}
 use Rattle.book.proofs.Soundness.{orders-fit, capacity-most, capacity-bytes}
 
 -- Books of any form of record.
@@ -124,15 +126,15 @@ module _ (s : List ℕ) where
   pub sound-fits : sound s ≡ true → (40 * length (ordersOf s) ≤ length s) × (length (ordersOf s) ≤ 256)
   sound-fits e = omega (arith, orders-fit s, capacity-most s e, capacity-bytes s e)
 
-  -- check refuses an unsound book
-  pub check-unsound : sound s ≡ false → record { refusal = 2; orders = 0 } ≡ checkCall s
-  unfolding checkCall
-  check-unsound h = rw h
+  -- an unsound book is refused 2
+  pub occupancy-unsound : sound s ≡ false → record { refusal = 2; records = 0 } ≡ occupancyOf s
+  unfolding occupancyOf
+  occupancy-unsound h = rw h
 
-  -- it accepts a sound one, and no other
-  pub check-test : eqb (checkCall s .refusal) 0 ≡ sound s
-  unfolding checkCall
-  check-test = go (sound s)
+  -- a sound one isn't, and no other
+  pub occupancy-test : eqb (occupancyOf s .refusal) 0 ≡ sound s
+  unfolding occupancyOf
+  occupancy-test = go (sound s)
     where
       go : (b : Bool) → eqb (cond (not b) 2 0) 0 ≡ b
       go true = refl
@@ -149,25 +151,42 @@ module _ (s : List ℕ) where
     unfolding sound
     sound-parts h = sound-parts-in form s n e h
 
-    -- check gives a sound book's number of orders
-    pub check-sound : sound s ≡ true → record { refusal = 0; orders = n } ≡ checkCall s
-    unfolding checkCall
-    check-sound h = rw (h, orders-count, e)
+    -- a sound book's records in use are those of its orders
+    pub occupancy-sound : sound s ≡ true → record { refusal = 0; records = n } ≡ occupancyOf s
+    unfolding occupancyOf
+    occupancy-sound h = rw (h, orders-count, e)
 
-  -- What check's answer says.
-  module _ (r : Checked) (q : r ≡ checkCall s) where
-    -- an accepted book is sound, and has so many orders
-    pub check-accepted : r .refusal ≡ 0 → (sound s ≡ true) × (r .orders ≡ length (ordersOf s))
-    check-accepted h = go (sound s) refl
+  -- What is known of a book that was looked at.
+  module _ (r : Occupancy) (q : r ≡ occupancyOf s) where
+    -- an accepted one is sound, and has so many orders
+    pub occupancy-accepted : r .refusal ≡ 0 → (sound s ≡ true) × (r .records ≡ length (ordersOf s))
+    occupancy-accepted h = go (sound s) refl
       where
-        go : (b : Bool) → sound s ≡ b → (sound s ≡ true) × (r .orders ≡ length (ordersOf s))
-        go true e = (e, ap (λ x. x .orders) (q ∙ sym (check-sound (length (ordersOf s)) orders-count e)))
-        go false e = absurd (omega (arith, ap (λ x. x .refusal) (q ∙ sym (check-unsound e))))
+        go : (b : Bool) → sound s ≡ b → (sound s ≡ true) × (r .records ≡ length (ordersOf s))
+        go true e = (e, ap (λ x. x .records) (q ∙ sym (occupancy-sound (length (ordersOf s)) orders-count e)))
+        go false e = absurd (omega (arith, ap (λ x. x .refusal) (q ∙ sym (occupancy-unsound e))))
 
     -- a refused one is not, and the refusal is 2
-    pub check-refused : (r .refusal ≡ 0 → ⊥) → (sound s ≡ false) × (r .refusal ≡ 2)
-    check-refused h = go (sound s) refl
+    pub occupancy-refused : (r .refusal ≡ 0 → ⊥) → (sound s ≡ false) × (r .refusal ≡ 2)
+    occupancy-refused h = go (sound s) refl
       where
         go : (b : Bool) → sound s ≡ b → (sound s ≡ false) × (r .refusal ≡ 2)
-        go true e = absurd (h (ap (λ x. x .refusal) (q ∙ sym (check-sound (length (ordersOf s)) orders-count e))))
-        go false e = (e, ap (λ x. x .refusal) (q ∙ sym (check-unsound e)))
+        go true e = absurd (h (ap (λ x. x .refusal) (q ∙ sym (occupancy-sound (length (ordersOf s)) orders-count e))))
+        go false e = (e, ap (λ x. x .refusal) (q ∙ sym (occupancy-unsound e)))
+
+  module _ (k : ℕ) where
+    -- check, refusal 1: there is no such security
+    pub check-range : securityInRange k ≡ false → record { refusal = 1; orders = 0 } ≡ checkCall k s
+    unfolding checkCall
+    check-range h = rw h
+
+    module _ (r : securityInRange k ≡ true) where
+      -- refusal 2: the book is not sound
+      pub check-unsound : sound s ≡ false → record { refusal = 2; orders = 0 } ≡ checkCall k s
+      unfolding checkCall
+      check-unsound h = rw (r, h)
+
+      -- accepted: the number of the security's orders
+      pub check-sound : sound s ≡ true → record { refusal = 0; orders = length (ordersFor k s) } ≡ checkCall k s
+      unfolding checkCall
+      check-sound h = rw (r, h)

@@ -9,13 +9,13 @@ use Rattle.orders.specs.declared.order.Order.{Order}
 use Rattle.record.specs.Codec.{replaced}
 use Rattle.record.specs.Record.{encodeOrder}
 use Rattle.record.proofs.Numbers.{AreBytes}
-use Rattle.book.specs.declared.Checked.{Checked}
+use Rattle.book.specs.declared.Occupancy.{Occupancy}
 use Rattle.book.specs.Sound.{form, sound}
 use Rattle.book.specs.Change.{withoutRecord}
 use Rattle.book.specs.Refusal.{Refusal, refuse, refusalOf, Changed, changedUnless}
-use Rattle.book.specs.Lookup.{checkCall}
+use Rattle.book.specs.Occupancy.{occupancyOf}
 use Rattle.book.proofs.Refusing.{book-refused}
-use Rattle.book.proofs.Checking.{check-refused}
+use Rattle.book.proofs.Checking.{occupancy-refused}
 
 module _ (call : Changed) (s : List ℕ) where
   -- it is refused with this number
@@ -49,10 +49,10 @@ module _ (inRange : Bool) (ofBook : List Refusal) (s after : List ℕ) where
   pub refuses-range : inRange ≡ false → Refuses call s 1
   refuses-range e = rw e (refuses 1 s after (λ z. omega arith))
 
-  -- refusal 2, a book that check refuses
-  pub refuses-book : inRange ≡ true → (c : Checked) → c ≡ checkCall s → (c .refusal ≡ 0 → ⊥) → Refuses call s (c .refusal)
+  -- refusal 2, a book that isn't sound
+  pub refuses-book : inRange ≡ true → (c : Occupancy) → c ≡ occupancyOf s → (c .refusal ≡ 0 → ⊥) → Refuses call s (c .refusal)
   refuses-book e c k h =
-      let b = check-refused s c k h in
+      let b = occupancy-refused s c k h in
       rw (e, b .0, b .1) (refuses 2 s after (λ z. omega arith))
 
 -- Where an accepted call leaves a sound book.

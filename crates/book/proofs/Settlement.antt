@@ -13,7 +13,7 @@ use Rattle.units.proofs.Members.{Every, every-append, filter-fewer}
 use Rattle.orders.specs.declared.order.Order.{Order}
 use Rattle.orders.specs.Order.{Interest, settled, isResting}
 use Rattle.record.proofs.Orders.{OrderSound, order-facts}
-use Rattle.record.proofs.Settling.{settled-side, settled-number, settled-price, settled-setter, settled-sound}
+use Rattle.record.proofs.Settling.{settled-side, settled-number, settled-price, settled-setter, settled-sound, settled-security}
 use Rattle.book.specs.Sound.{rising, sameSetter, settersSound}
 use Rattle.book.proofs.Soundness.{OrdersSound}
 
@@ -63,7 +63,16 @@ rest-rise m (l ∷ ls) (o ∷ os) e =
 
 same-setter : (k l : Interest) (o p : Order) → sameSetter (settled k o) (settled l p) ≡ sameSetter o p
 same-setter k l o p =
-    rw (settled-setter k o, settled-setter l p, settled-side k o, settled-side l p, settled-price k o, settled-price l p)
+    rw (
+      settled-setter k o,
+      settled-setter l p,
+      settled-security k o,
+      settled-security l p,
+      settled-side k o,
+      settled-side l p,
+      settled-price k o,
+      settled-price l p,
+    )
 
 rest-meets : (k : Interest) (o : Order) (ls : List Interest) (os : List Order) → any (sameSetter o) os ≡ false
     → any (sameSetter (settled k o)) (rest ls os) ≡ false

@@ -1,7 +1,7 @@
 -- Walking over a book: its records and orders from a byte on, and one turn of each loop over them.
 use Prim.Native.Nat.{ℕ, suc, _+_, _-_, _≤_, _<_}
 use mathlib.Core.Path.{_≡_, sym, ap, _∙_}
-use mathlib.Core.Bool.{Bool, _&&_, _||_, and-true, or-false, and-assoc, or-assoc}
+use mathlib.Core.Bool.{Bool, true, false, _&&_, _||_, and-true, or-false, and-assoc, or-assoc}
 use mathlib.Core.List.{List, [], _∷_, map}
 use native.Mathlib.Omega.{arith}
 use native.Mathlib.Nat.{add-zero}
@@ -13,7 +13,7 @@ use Rattle.units.specs.Lists.{all, any, isZero}
 use Rattle.orders.specs.declared.order.Order.{Order}
 use Rattle.record.specs.Record.{OrderForm, orderBytes, decodeOrder}
 use Rattle.book.specs.Sound.{form, rising, isUnused, occupied, firstRecords, firstOrders}
-use Rattle.book.specs.Lookup.{placeOf}
+use Rattle.book.specs.Lookup.{isNamed, placeOf}
 
 -- Records of any form, from byte `at` on, with n of them to go.
 module _ (f : OrderForm) (s : List ℕ) (at n : ℕ) where
@@ -85,14 +85,14 @@ module _ (s : List ℕ) (at n : ℕ) where
           and-assoc x (ltb last (o .number)) (rising (o .number) (firstOrders (n - 1) (drop (at + 40) s)))
           ∙ ap (λ os. x && rising last os) (sym orders-read)
 
-      -- an order of another number stands before the one that is looked for
-      pub place-more : (number : ℕ) → (o .number ≡ number → ⊥)
-          → placeOf number (firstOrders n (drop at s)) ≡ suc (placeOf number (firstOrders (n - 1) (drop (at + 40) s)))
-      place-more number e = ap (placeOf number) orders-read ∙ rw (ne-eqb (o .number) number e)
+      -- an order that isn't named stands before the one that is looked for
+      pub place-more : (k number : ℕ) → isNamed k number o ≡ false
+          → placeOf k number (firstOrders n (drop at s)) ≡ suc (placeOf k number (firstOrders (n - 1) (drop (at + 40) s)))
+      place-more k number e = ap (placeOf k number) orders-read ∙ rw e
 
-      -- the order of this number has none before it
-      pub place-stop : (number : ℕ) → o .number ≡ number → placeOf number (firstOrders n (drop at s)) ≡ 0
-      place-stop number e = ap (placeOf number) orders-read ∙ rw (eq-eqb (o .number) number e)
+      -- the order that is named has none before it
+      pub place-stop : (k number : ℕ) → isNamed k number o ≡ true → placeOf k number (firstOrders n (drop at s)) ≡ 0
+      place-stop k number e = ap (placeOf k number) orders-read ∙ rw e
 
       -- An answer x that is gathered order by order.
       module _ (p : Order → Bool) (x : Bool) where
@@ -117,8 +117,8 @@ module _ (s : List ℕ) (at n : ℕ) where
     rising-done last x = ap (λ os. x && rising last os) orders-done ∙ and-true x
 
     -- none stands before the one that is looked for
-    pub place-done : (number : ℕ) → placeOf number (firstOrders n (drop at s)) ≡ 0
-    place-done number = ap (placeOf number) orders-done
+    pub place-done : (k number : ℕ) → placeOf k number (firstOrders n (drop at s)) ≡ 0
+    place-done k number = ap (placeOf k number) orders-done
 
     -- What is gathered is the answer.
     module _ (p : Order → Bool) (x : Bool) where

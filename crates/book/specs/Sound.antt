@@ -19,11 +19,12 @@ abbrev pub rising : ℕ → List Order → Bool
 rising m [] = true
 rising m (o ∷ os) = ltb m (o .number) && rising (o .number) os
 
--- both have the setter mark, at one side and price
+-- both have the setter mark, in one security at one side and price
 abbrev pub sameSetter : Order → Order → Bool
-sameSetter a b = a .setter && b .setter && eqb (sideNumber (a .side)) (sideNumber (b .side)) && eqb (priceOf a) (priceOf b)
+sameSetter a b =
+    a .setter && b .setter && eqb (a .security) (b .security) && eqb (sideNumber (a .side)) (sideNumber (b .side)) && eqb (priceOf a) (priceOf b)
 
--- at most one order per side and price has the setter mark
+-- at most one order per security, side and price has the setter mark
 abbrev pub settersSound : List Order → Bool
 settersSound [] = true
 settersSound (o ∷ os) = not (any (sameSetter o) os) && settersSound os
@@ -61,7 +62,7 @@ module _ (f : OrderForm) where
   ordersIn s = map (decodeOrder f) (occupied (recordsIn s))
 
   -- A book is a whole number of records, at most 256 of them. Its orders' records are sound, every byte behind them is zero, their
-  -- numbers rise, and setter marks are one per side and price. Buys and sells may overlap in price.
+  -- numbers rise over both securities, and setter marks are one per security, side and price. Buys and sells may overlap in price.
   abbrev pub soundIn : List ℕ → Bool
   soundIn s =
       leb (length s) (mostOrders * orderBytes f)

@@ -1,4 +1,4 @@
-// The cases of the scope, and those of reserve orders, run on lent bytes.
+// The cases of the scope, those of reserve orders, and those of two securities in one book, run on lent bytes.
 mod report;
 
 use entry::admission::AddRequest;
@@ -25,6 +25,7 @@ fn add(book: &mut [u8], side: u32, kind: u32, order: u32, price: u32, size: u32,
             minimum,
             hidden: 0,
             refresh: 0,
+            security: 0,
         },
     );
 }
@@ -55,12 +56,13 @@ fn reserve(book: &mut [u8], side: u32, order: u32, shown: u32, hidden: u32) {
             minimum: 0,
             hidden,
             refresh: shown,
+            security: 0,
         },
     );
 }
 
-fn reduce(book: &mut [u8], order: u32, shares: u32) {
-    let refusal = entry::reduce(book, order, shares);
+fn reduce_for(book: &mut [u8], security: u32, order: u32, shares: u32) {
+    let refusal = entry::reduce(book, security, order, shares);
     report::text(b"reduce");
     report::number(order);
     report::number(shares);
@@ -69,8 +71,12 @@ fn reduce(book: &mut [u8], order: u32, shares: u32) {
     report::text(b"\n");
 }
 
+fn reduce(book: &mut [u8], order: u32, shares: u32) {
+    reduce_for(book, 0, order, shares);
+}
+
 // An incoming order, its executions, and the book afterwards. The execution buffer has bytes 7 at first, and those behind the executions stay.
-fn incoming(book: &mut [u8], side: u32, limit: u32, size: u32, algorithm: u32) {
+fn incoming_for(book: &mut [u8], security: u32, side: u32, limit: u32, size: u32, algorithm: u32) {
     let mut space = [7u8; 80];
     let buffer: &mut [u8] = &mut space;
     report::call(side, limit, size, algorithm);
@@ -82,10 +88,15 @@ fn incoming(book: &mut [u8], side: u32, limit: u32, size: u32, algorithm: u32) {
             limit,
             size,
             algorithm,
+            security,
         },
     );
     report::answer(taken, buffer);
     report::book(book);
+}
+
+fn incoming(book: &mut [u8], side: u32, limit: u32, size: u32, algorithm: u32) {
+    incoming_for(book, 0, side, limit, size, algorithm);
 }
 
 fn buy(book: &mut [u8], size: u32, algorithm: u32) {
@@ -276,6 +287,56 @@ fn reserve_cases() {
     entered_and_reduced();
 }
 
+// A displayed order of a security.
+fn displayed_for(book: &mut [u8], security: u32, side: u32, order: u32, price: u32, size: u32) {
+    add_request(
+        book,
+        AddRequest {
+            side,
+            kind: 1,
+            number: order,
+            price,
+            size,
+            minimum: 0,
+            hidden: 0,
+            refresh: 0,
+            security,
+        },
+    );
+}
+
+// Sells of both at one price, a mark on each; then one's records are emptied between the other's, and the other's sells are taken from too.
+fn interleaved() {
+    case(b"securities, interleaved");
+    let mut space = [0u8; 160];
+    let book: &mut [u8] = &mut space;
+    displayed_for(book, 0, 2, 1, 100_000, 300);
+    displayed_for(book, 1, 2, 2, 100_000, 300);
+    displayed_for(book, 0, 2, 3, 100_000, 200);
+    displayed_for(book, 1, 2, 4, 100_000, 900);
+    incoming_for(book, 0, 1, 100_000, 600, 3);
+    incoming_for(book, 1, 1, 100_000, 500, 3);
+}
+
+// Numbers rise over both, and room is the book's; a buy of one could trade with the sells of its own alone; no third security.
+fn shared_book() {
+    case(b"securities, add and reduce");
+    let mut space = [0u8; 120];
+    let book: &mut [u8] = &mut space;
+    displayed_for(book, 1, 2, 9, 100_000, 300);
+    displayed_for(book, 0, 2, 8, 100_100, 300);
+    displayed_for(book, 0, 1, 10, 100_100, 300);
+    displayed_for(book, 1, 1, 11, 100_100, 300);
+    displayed_for(book, 2, 1, 11, 100_100, 300);
+    displayed_for(book, 1, 2, 11, 99_900, 300);
+    displayed_for(book, 0, 1, 12, 100_200, 300);
+    report::book(book);
+    reduce_for(book, 0, 9, 300);
+    reduce_for(book, 1, 10, 300);
+    reduce_for(book, 1, 9, 300);
+    report::book(book);
+}
+
 fn displayed_cases() {
     three_displayed(b"a", 1_200);
     three_displayed(b"b", 80);
@@ -303,4 +364,6 @@ fn main() {
     case_n(3);
     two_displayed(b"o", 300, 200, 80, 3);
     reserve_cases();
+    interleaved();
+    shared_book();
 }

@@ -95,7 +95,7 @@ pub(crate) fn answer(taken: Taken, buffer: &[u8]) {
     executions(buffer, taken.count);
 }
 
-// The order of the record that begins at a byte: its mark, number, size, minimum, hidden shares and setter mark.
+// The order of the record that begins at a byte: its mark, number, size, minimum, hidden shares, setter mark and security.
 fn order(book: &[u8], at: usize)
     requires { ⌜ at + 40 ≤ length (now book) ⌝ }
 {
@@ -110,12 +110,13 @@ fn order(book: &[u8], at: usize)
     number(minimum.0);
     number(hidden.0);
     number(units::one_if(order.setter));
+    number(order.security);
     text(b"\n");
 }
 
 // The first orders of a book, as many as are said to be there.
-fn orders(book: &[u8], count: u32) {
-    let n = least(count as usize, book.len() / RECORD_BYTES);
+fn orders(book: &[u8], count: usize) {
+    let n = least(count, book.len() / RECORD_BYTES);
     let mut i = 0;
     while i < n {
         order(book, RECORD_BYTES * i);
@@ -123,13 +124,15 @@ fn orders(book: &[u8], count: u32) {
     }
 }
 
-// What check says of a book, and its orders.
+// What check says of a book for both securities, and its orders.
 pub(crate) fn book(book: &[u8]) {
-    let checked = lookup::check(book);
+    let first = lookup::check(book, 0);
+    let second = lookup::check(book, 1);
     text(b"check");
-    number(checked.refusal);
+    number(first.refusal);
     text(b" orders");
-    number(checked.orders);
+    number(first.orders);
+    number(second.orders);
     digest(book);
-    orders(book, checked.orders);
+    orders(book, lookup::occupied(book));
 }

@@ -41,7 +41,7 @@ hides-none (Reserve h r) e = absurd (false≢true e)
 turned-order : (from to : RecordForm) (o : Order) → canTell oldForm o ≡ true → turned (formOf to) (encodeOrder (formOf from) o) ≡ encodeOrder (formOf to) o
 unfolding encode numbersOf oldTells
 turned-order from to o e =
-    let t = chain-true (inRange 1 3 (kindNumber (o .kind))) (isZero 0 ∷ isZero 0 ∷ []) e in
+    let t = chain-true (inRange 1 3 (kindNumber (o .kind))) (isZero (o .security) ∷ isZero 0 ∷ []) e in
     let h = hides-none (o .kind) (t .0) in
     go from to (h .0) (h .1)
   where

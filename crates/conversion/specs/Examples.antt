@@ -83,8 +83,13 @@ turnedAway =
     refuses (toNewCall [] (any 41)) 12 41 ∷
     refuses (toNewCall [] (any 32)) 12 32 ∷
     refuses (toOldCall [] (any 40)) 12 40 ∷
-    -- an unsound book that holds a kind 4, and a target of the wrong length: 2; a kind 4 and such a target: 11
-    refuses (toOldCall (set (bookIn newForm 1 reserve) 21 1) (any 33)) 2 33 ∷
+    -- an order of security 1, alone and behind one of security 0; no other security is sound
+    refuses (toOldCall (set news 21 1) (any 128)) 11 128 ∷
+    refuses (toOldCall (set news 101 1) (any 128)) 11 128 ∷
+    refuses (toOldCall (set news 21 2) (any 128)) 2 128 ∷
+    -- an unsound book that holds a kind 4, and a target of the wrong length: 2; a kind 4, or security 1, and such a target: 11
+    refuses (toOldCall (set (bookIn newForm 1 reserve) 22 1) (any 33)) 2 33 ∷
+    refuses (toOldCall (set news 21 1) (any 33)) 11 33 ∷
     refuses (toOldCall (bookIn newForm 1 reserve) (any 33)) 11 33 ∷
     refuses (toNewCall (set olds 21 1) (any 33)) 2 33 ∷ []
 

@@ -38,12 +38,12 @@ pub fn to_old(book: &[u8], target: &mut [u8]) -> u32
     ensures made_sound { λ r. ⌜ (r ≡ 0 → soundIn oldForm (now (target .exit)) ≡ true) ⌝ }
     ensures same_orders { λ r. ⌜ (r ≡ 0 → ordersIn oldForm (now (target .exit)) ≡ ordersIn newForm (now (book .entry))) ⌝ }
 {
-    let checked = lookup::check(book);
-    let refusal = checked.refusal;
+    let occupancy = lookup::occupancy(book);
+    let refusal = occupancy.refusal;
     if refusal != 0 {
         return refusal;
     }
-    let n = checked.orders as usize;
+    let n = occupancy.records;
     if !turning::are_plain(book, RecordForm::New, n) {
         return 11;
     }

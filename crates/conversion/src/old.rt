@@ -46,8 +46,8 @@ pub(crate) fn is_sound(book: &[u8], n: usize) -> bool
 {
     let mut renewed = no_records();
     let end = turning::turn(book, RecordForm::Old, &mut renewed, RecordForm::New, n);
-    let checked = lookup::check(&renewed[..end]);
+    let occupancy = lookup::occupancy(&renewed[..end]);
     turning::are_plain(book, RecordForm::Old, n)
         & bytes::zeros(&book[OLD_BYTES * n..])
-        & (checked.refusal == 0)
+        & (occupancy.refusal == 0)
 }

@@ -77,15 +77,15 @@ module _ (s : List ℕ) (h : sound s ≡ true) (p : withoutReserve (ordersOf s) 
   add-stays-plain q a b =
       decided (addCall q s .refusal) (withoutReserve (ordersOf (addCall q s .book)) ≡ true) (add-plain s p q a b) (λ n. rw (ne-eqb _ 0 n) p)
 
-  reduce-keeps : (n shares : ℕ) → sound (reduceCall n shares s .book) ≡ true
+  reduce-keeps : (n shares : ℕ) → sound (reduceCall 0 n shares s .book) ≡ true
   unfolding reduceCall
   reduce-keeps n shares =
-      decided (reduceCall n shares s .refusal) (sound (reduceCall n shares s .book) ≡ true) (reduce-sound n shares s) (λ m. rw (ne-eqb _ 0 m) h)
+      decided (reduceCall 0 n shares s .refusal) (sound (reduceCall 0 n shares s .book) ≡ true) (reduce-sound 0 n shares s) (λ m. rw (ne-eqb _ 0 m) h)
 
-  reduce-stays-plain : (n shares : ℕ) → withoutReserve (ordersOf (reduceCall n shares s .book)) ≡ true
+  reduce-stays-plain : (n shares : ℕ) → withoutReserve (ordersOf (reduceCall 0 n shares s .book)) ≡ true
   unfolding reduceCall
   reduce-stays-plain n shares =
-      decided (reduceCall n shares s .refusal) (withoutReserve (ordersOf (reduceCall n shares s .book)) ≡ true) (reduce-plain s p n shares) (λ m. rw (ne-eqb _ 0 m) p)
+      decided (reduceCall 0 n shares s .refusal) (withoutReserve (ordersOf (reduceCall 0 n shares s .book)) ≡ true) (reduce-plain s p n shares) (λ m. rw (ne-eqb _ 0 m) p)
 
   module _ (q : TakeRequest) (x : List ℕ) where
     take-keeps : sound (takeCall q s x .book) ≡ true
@@ -136,7 +136,7 @@ module _ (d : Desk) (r : Ready d) where
   stays-ready (Take side limit size) = record {
     book = take-keeps (d .book) (r .book) (r .plain) _ (d .executions);
     plain = take-stays-plain (d .book) (r .book) (r .plain) _ (d .executions);
-    room = omega (arith, r .room, take-room (d .book) (r .book) (r .plain) (record { side = side; limit = limit; size = size; algorithm = d .algorithm }) (d .executions));
+    room = omega (arith, r .room, take-room (d .book) (r .book) (r .plain) (record { side = side; limit = limit; size = size; algorithm = d .algorithm; security = 0 }) (d .executions));
   }
   stays-ready Nothing = r
 
@@ -145,7 +145,7 @@ module _ (d : Desk) (r : Ready d) where
   adds q = refusalsOf (addRefusals q (capacityOf (d .book)) (ordersOf (d .book))) (sound (d .book))
 
   abbrev reduces : ℕ → ℕ → List Refusal
-  reduces n shares = refusalsOf (reduceRefusals n shares (ordersOf (d .book))) (sound (d .book))
+  reduces n shares = refusalsOf (reduceRefusals 0 n shares (ordersOf (d .book))) (sound (d .book))
 
   abbrev takes : TakeRequest → List Refusal
   takes q = refusalsOf (takeRefusals q (outcomeOf q (ordersOf (d .book)) .executions) (d .executions)) (sound (d .book))
@@ -159,12 +159,12 @@ module _ (d : Desk) (r : Ready d) where
   unfolding performed addCall reduceCall takeCall
   never-2 (Choose n) e = silent-accepted 2 e
   never-2 (Add side kind number price size minimum) e =
-      let q : AddRequest = record { side = side; kind = kind; number = number; price = price; size = size; minimum = minimum; hidden = 0; refresh = 0 } in
+      let q : AddRequest = record { side = side; kind = kind; number = number; price = price; size = size; minimum = minimum; hidden = 0; refresh = 0; security = 0 } in
       not-given 2 (λ z. omega arith) (adds q) (rw (r .book)) (was-given (adds q) 2 Silent (silent-accepted 2) e)
   never-2 (Reduce number shares) e =
       not-given 2 (λ z. omega arith) (reduces number shares) (rw (r .book)) (was-given (reduces number shares) 2 Silent (silent-accepted 2) e)
   never-2 (Take side limit size) e =
-      let q : TakeRequest = record { side = side; limit = limit; size = size; algorithm = d .algorithm } in
+      let q : TakeRequest = record { side = side; limit = limit; size = size; algorithm = d .algorithm; security = 0 } in
       not-given 2 (λ z. omega arith) (takes q) (rw (r .book)) (was-given (takes q) 2 (listed q) (listed-accepted _ _ 2) e)
   never-2 Nothing e = let z : _≡_ {A = ℕ} 1 2 = cc in omega arith
 
@@ -173,12 +173,12 @@ module _ (d : Desk) (r : Ready d) where
   unfolding performed addCall reduceCall takeCall
   never-8 (Choose n) e = silent-accepted 8 e
   never-8 (Add side kind number price size minimum) e =
-      let q : AddRequest = record { side = side; kind = kind; number = number; price = price; size = size; minimum = minimum; hidden = 0; refresh = 0 } in
+      let q : AddRequest = record { side = side; kind = kind; number = number; price = price; size = size; minimum = minimum; hidden = 0; refresh = 0; security = 0 } in
       not-given 8 (λ z. omega arith) (adds q) refl (was-given (adds q) 8 Silent (silent-accepted 8) e)
   never-8 (Reduce number shares) e =
       not-given 8 (λ z. omega arith) (reduces number shares) refl (was-given (reduces number shares) 8 Silent (silent-accepted 8) e)
   never-8 (Take side limit size) e =
-      let q : TakeRequest = record { side = side; limit = limit; size = size; algorithm = d .algorithm } in
+      let q : TakeRequest = record { side = side; limit = limit; size = size; algorithm = d .algorithm; security = 0 } in
       let f = le-ltb (length (d .executions)) (16 * length (outcomeOf q (ordersOf (d .book)) .executions))
       (omega (arith, r .room, executions-fit (d .book) (r .book) (r .plain) q (d .executions))) in
       not-given 8 (λ z. omega arith) (takes q) (rw f) (was-given (takes q) 8 (listed q) (listed-accepted _ _ 8) e)

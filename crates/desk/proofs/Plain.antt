@@ -12,7 +12,7 @@ use Rattle.units.proofs.Facts.{chain-true, range-true}
 use Rattle.units.proofs.Members.{all-append}
 use Rattle.units.proofs.Tests.{true-and}
 use Rattle.orders.specs.declared.order.Order.{Order}
-use Rattle.orders.specs.Order.{kindOf, isReserve, numberInRange, priceInRange, sharesInRange, minimumInRange, reserveInRange}
+use Rattle.orders.specs.Order.{kindOf, isReserve, numberInRange, priceInRange, sharesInRange, securityInRange, minimumInRange, reserveInRange}
 use Rattle.book.specs.Sound.{ordersOf}
 use Rattle.entry.specs.declared.admission.AddRequest.{AddRequest}
 use Rattle.entry.specs.Add.{requestInRange, requested, setsPrice, added, addCall}
@@ -42,11 +42,11 @@ module _ (s : List ℕ) (h : withoutReserve (ordersOf s) ≡ true) where
       chain-true (inRange 1 2 (q .side))
       (inRange 1 4 (q .kind) ∷ numberInRange (q .number) ∷ priceInRange (q .price) ∷ sharesInRange (q .size) ∷
       minimumInRange (q .kind) (q .size) (q .minimum) ∷ reserveInRange (q .kind) (q .hidden) (q .refresh) ∷
-      (not (eqb (q .kind) 4) || eqb (q .refresh) (q .size)) ∷ [])
+      (not (eqb (q .kind) 4) || eqb (q .refresh) (q .size)) ∷ securityInRange (q .security) ∷ [])
       (not-false (requestInRange q) (add-accepted q s e .ofCall .0)) in
       let k = plain-kind (q .kind) (q .minimum) (t .1 .0) (rw (a, b) at (t .1 .1 .1 .1 .1 .1 .0)) in
       rw (add-orders q s e) (all-append (λ (o : Order). not (isReserve (o .kind))) os (new ∷ []) ∙ true-and h (rw (a, b, k)))
 
   -- an accepted reduce
-  pub reduce-plain : (n shares : ℕ) → reduceCall n shares s .refusal ≡ 0 → withoutReserve (ordersOf (reduceCall n shares s .book)) ≡ true
-  reduce-plain n shares e = rw (reduce-orders n shares s e) (without-left (map (reductionOf n shares) (ordersOf s)) (ordersOf s) h)
+  pub reduce-plain : (n shares : ℕ) → reduceCall 0 n shares s .refusal ≡ 0 → withoutReserve (ordersOf (reduceCall 0 n shares s .book)) ≡ true
+  reduce-plain n shares e = rw (reduce-orders 0 n shares s e) (without-left (map (reductionOf 0 n shares) (ordersOf s)) (ordersOf s) h)

@@ -5,6 +5,9 @@ use script::command::Command;
 ghost use mathlib.Core.Path.{_≡_};
 ghost use Rattle.desk.specs.Desk.{deskOf, refusedOr, performed};
 
+// A fillsheet trades in one security.
+const SECURITY: u32 = 0;
+
 // What a command answers: nothing, its refusal, or how many executions a take wrote and the shares left.
 pub enum Answer {
     Silent,
@@ -61,13 +64,14 @@ pub fn perform(
                 minimum,
                 hidden: 0,
                 refresh: 0,
+                security: SECURITY,
             };
             let refusal = entry::add(book, request);
             let answer = refused_or(refusal, Answer::Silent);
             Performance { answer, algorithm }
         }
         Command::Reduce { number, shares } => {
-            let refusal = entry::reduce(book, number, shares);
+            let refusal = entry::reduce(book, SECURITY, number, shares);
             let answer = refused_or(refusal, Answer::Silent);
             Performance { answer, algorithm }
         }
@@ -77,6 +81,7 @@ pub fn perform(
                 limit,
                 size,
                 algorithm,
+                security: SECURITY,
             };
             let taken = take::take(book, executions, request);
             let listed = Answer::Listed {

@@ -11,9 +11,9 @@ use Rattle.units.specs.Lists.{any}
 use Rattle.units.specs.Lots.{roundLot}
 use Rattle.orders.specs.declared.order.Order.{Order}
 use Rattle.orders.specs.Order.{isDisplayed, interestOf}
-use Rattle.book.specs.declared.Checked.{Checked}
+use Rattle.book.specs.declared.Occupancy.{Occupancy}
 use Rattle.book.specs.Sound.{sound, ordersOf, bookOf, capacityOf, firstOrders}
-use Rattle.book.specs.Lookup.{checkCall}
+use Rattle.book.specs.Occupancy.{occupancyOf}
 use Rattle.book.specs.Refusal.{refusalOf, isAccepted}
 use Rattle.book.proofs.Soundness.{capacity-bytes}
 use Rattle.book.proofs.Refusing.{book-accepted}
@@ -28,13 +28,13 @@ use Rattle.entry.specs.Add.{requestInRange, requested, setsPrice, couldT
 use Rattle.entry.specs.Plan.{standingOf, addPlan}
 use Rattle.entry.proofs.Adding.{add-accepted}
 
--- An add that is refused before anything is decided: a number is out of its range, or check refuses the book.
+-- An add that is refused before anything is decided: a number is out of its range, or the book isn't sound.
 module _ (q : AddRequest) (s : List ℕ) where
   pub add-range : requestInRange q ≡ false → Refuses (addCall q s) s 1
   unfolding addCall
   add-range = refuses-range (requestInRange q) (addRefusals q (capacityOf s) (ordersOf s) .ofBook) s (bookOf (capacityOf s) (added roundLot q (ordersOf s)))
 
-  pub add-unsound : requestInRange q ≡ true → (c : Checked) → c ≡ checkCall s → (c .refusal ≡ 0 → ⊥) → Refuses (addCall q s) s (c .refusal)
+  pub add-unsound : requestInRange q ≡ true → (c : Occupancy) → c ≡ occupancyOf s → (c .refusal ≡ 0 → ⊥) → Refuses (addCall q s) s (c .refusal)
   unfolding addCall
   add-unsound = refuses-book (requestInRange q) (addRefusals q (capacityOf s) (ordersOf s) .ofBook) s (bookOf (capacityOf s) (added roundLot q (ordersOf s)))
 

@@ -33,13 +33,15 @@ apart Buy Sell p r e = refl
 apart Sell Buy p r e = refl
 apart Sell Sell p r e = let l = ltb-true p r e in ne-eqb r p (λ f. omega arith)
 
--- a new mark meets no mark of a displayed order
-marks-apart : (mark own shown : Bool) (a b : Side) (p r : ℕ) → (mark ≡ true → shown ≡ true)
-    → (own ≡ true → (isOpposite a b || not shown || isPricedBetter a p r) ≡ true) → (mark && own && eqb (sideNumber b) (sideNumber a) && eqb r p) ≡ false
-marks-apart false own shown a b p r h e = refl
-marks-apart true false shown a b p r h e = refl
-marks-apart true true true a b p r h e = apart a b p r (e refl)
-marks-apart true true false a b p r h e = absurd (false≢true (h refl))
+-- a new mark meets no mark of a displayed order of its security
+marks-apart : (mark own shown same : Bool) (a b : Side) (p r : ℕ) → (mark ≡ true → shown ≡ true)
+    → (own ≡ true → (not same || isOpposite a b || not shown || isPricedBetter a p r) ≡ true)
+    → (mark && own && same && eqb (sideNumber b) (sideNumber a) && eqb r p) ≡ false
+marks-apart false own shown same a b p r h e = refl
+marks-apart true false shown same a b p r h e = refl
+marks-apart true true shown false a b p r h e = refl
+marks-apart true true true true a b p r h e = apart a b p r (e refl)
+marks-apart true true false true a b p r h e = absurd (false≢true (h refl))
 
 module _ (lot : ℕ) (q : AddRequest) (os : List Order) where
   -- whether the new order sets the price
@@ -57,7 +59,7 @@ module _ (lot : ℕ) (q : AddRequest) (os : List Order) where
   unmet : OrdersSound os → (p : Order) → List·Memᴰ p os → sameSetter p (requested q sets) ≡ false
   unfolding requested
   unmet h p m =
-      marks-apart (p .setter) sets (isDisplayed (p .kind)) (sideOf (q .side)) (p .side) (q .price) (priceOf p)
+      marks-apart (p .setter) sets (isDisplayed (p .kind)) (eqb (p .security) (q .security)) (sideOf (q .side)) (p .side) (q .price) (priceOf p)
       (order-facts p (every-member OrderSound os (h .each) p m) .marked)
       (λ f. all-member (beats (requested q false)) os (sets-facts f .1) p m)
 

@@ -9,7 +9,7 @@ use borrow.Author.Tests.{eqb-true, leb-true}
 use Rattle.units.specs.Lists.{inRange, isZero}
 use Rattle.units.proofs.Facts.{chain-true, range-true}
 use Rattle.units.proofs.Tests.{and-true}
-use Rattle.orders.specs.Order.{interestOf, allShares, numberInRange, priceInRange, sharesInRange, minimumInRange, reserveInRange}
+use Rattle.orders.specs.Order.{interestOf, allShares, numberInRange, priceInRange, sharesInRange, securityInRange, minimumInRange, reserveInRange}
 use Rattle.orders.proofs.KindTests.{all-by}
 use Rattle.entry.specs.declared.admission.AddRequest.{AddRequest}
 use Rattle.entry.specs.Add.{requestInRange, requested}
@@ -26,7 +26,7 @@ asked q e =
     chain-true (inRange 1 2 (q .side))
     (inRange 1 4 (q .kind) ∷ numberInRange (q .number) ∷ priceInRange (q .price) ∷ sharesInRange (q .size) ∷
     minimumInRange (q .kind) (q .size) (q .minimum) ∷ reserveInRange (q .kind) (q .hidden) (q .refresh) ∷
-    (not (eqb (q .kind) 4) || eqb (q .refresh) (q .size)) ∷ [])
+    (not (eqb (q .kind) 4) || eqb (q .refresh) (q .size)) ∷ securityInRange (q .security) ∷ [])
     e in
     let z = range-true 1 999999 (q .size) (t .1 .1 .1 .1 .0) in
     let b = hides (eqb (q .kind) 4) refl (t .1 .1 .1 .1 .1 .1 .0) in

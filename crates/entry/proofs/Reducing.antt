@@ -15,7 +15,7 @@ use Rattle.orders.proofs.Interests.{refreshed-some}
 use Rattle.record.proofs.Orders.{OrderSound, order-facts}
 use Rattle.record.proofs.Settling.{settled-nothing}
 use Rattle.book.specs.Sound.{sound, ordersOf, capacityOf}
-use Rattle.book.specs.Lookup.{hasNumber}
+use Rattle.book.specs.Lookup.{isNamed}
 use Rattle.book.proofs.Soundness.{OrdersSound, orders-sound, orders-fit}
 use Rattle.book.proofs.Settlement.{settle-sound, settle-fewer}
 use Rattle.book.proofs.Refusing.{Accepted, accepted}
@@ -46,50 +46,50 @@ module _ (shares : ℕ) (o : Order) (e : OrderSound o) where
       → interestOf (settled (reduction shares (interestOf o)) o) .nonDisplayed ≡ 0
   reduce-hides-none = rw reduce-leaves (λ l. omega arith)
 
-module _ (n shares : ℕ) where
+module _ (k n shares : ℕ) where
   -- what each order loses: only the named one loses shares
   abbrev pub reductionOf : Order → Interest
-  reductionOf o = cond (hasNumber n o) (reduction shares (interestOf o)) noInterest
+  reductionOf o = cond (isNamed k n o) (reduction shares (interestOf o)) noInterest
 
   reduced-if : (b : Bool) (o : Order) → OrderSound o → reducedIf b shares o ≡ settled (cond b (reduction shares (interestOf o)) noInterest) o
   reduced-if true o h = refl
   reduced-if false o h = sym (settled-nothing o h)
 
-  each-reduced : (os : List Order) → Every OrderSound os → map (λ o. reducedIf (hasNumber n o) shares o) os ≡ zipWith settled (map reductionOf os) os
+  each-reduced : (os : List Order) → Every OrderSound os → map (λ o. reducedIf (isNamed k n o) shares o) os ≡ zipWith settled (map reductionOf os) os
   each-reduced [] h = refl
-  each-reduced (o ∷ os) h = ap₂ (λ p ps. p ∷ ps) (reduced-if (hasNumber n o) o (h .0)) (each-reduced os (h .1))
+  each-reduced (o ∷ os) h = ap₂ (λ p ps. p ∷ ps) (reduced-if (isNamed k n o) o (h .0)) (each-reduced os (h .1))
 
   -- to reduce an order is to settle the orders with what it loses
-  pub reduced-settled : (os : List Order) → Every OrderSound os → reduced n shares os ≡ filter isResting (zipWith settled (map reductionOf os) os)
+  pub reduced-settled : (os : List Order) → Every OrderSound os → reduced k n shares os ≡ filter isResting (zipWith settled (map reductionOf os) os)
   unfolding reduced
   reduced-settled os h = ap (filter isResting) (each-reduced os h)
 
   -- An accepted reduce.
-  module _ (s : List ℕ) (e : reduceCall n shares s .refusal ≡ 0) where
+  module _ (s : List ℕ) (e : reduceCall k n shares s .refusal ≡ 0) where
     -- its book is sound, and none of its refusals holds
-    pub reduce-accepted : Accepted (reduceRefusals n shares (ordersOf s)) (sound s)
+    pub reduce-accepted : Accepted (reduceRefusals k n shares (ordersOf s)) (sound s)
     unfolding reduceCall
-    reduce-accepted = accepted (reduceRefusals n shares (ordersOf s)) (sound s) refl e
+    reduce-accepted = accepted (reduceRefusals k n shares (ordersOf s)) (sound s) refl e
 
-    settling : reduced n shares (ordersOf s) ≡ filter isResting (zipWith settled (map reductionOf (ordersOf s)) (ordersOf s))
+    settling : reduced k n shares (ordersOf s) ≡ filter isResting (zipWith settled (map reductionOf (ordersOf s)) (ordersOf s))
     settling = reduced-settled (ordersOf s) (orders-sound s (reduce-accepted .book) .each)
 
     -- the orders that it leaves are sound
-    pub reduce-orders-sound : OrdersSound (reduced n shares (ordersOf s))
+    pub reduce-orders-sound : OrdersSound (reduced k n shares (ordersOf s))
     reduce-orders-sound =
         subst⁻¹ OrdersSound settling (settle-sound (map reductionOf (ordersOf s)) (ordersOf s) (orders-sound s (reduce-accepted .book)))
 
-    room : length (reduced n shares (ordersOf s)) ≤ capacityOf s
+    room : length (reduced k n shares (ordersOf s)) ≤ capacityOf s
     room = omega (arith, ap length settling, settle-fewer (map reductionOf (ordersOf s)) (ordersOf s), orders-fit s)
 
     -- the book has them
-    pub reduce-orders : ordersOf (reduceCall n shares s .book) ≡ filter isResting (zipWith settled (map reductionOf (ordersOf s)) (ordersOf s))
+    pub reduce-orders : ordersOf (reduceCall k n shares s .book) ≡ filter isResting (zipWith settled (map reductionOf (ordersOf s)) (ordersOf s))
     unfolding reduceCall
     reduce-orders =
-        changed-orders (reduceCall n shares s .refusal) s (reduced n shares (ordersOf s)) e (reduce-accepted .book) reduce-orders-sound room ∙ settling
+        changed-orders (reduceCall k n shares s .refusal) s (reduced k n shares (ordersOf s)) e (reduce-accepted .book) reduce-orders-sound room ∙ settling
 
     -- the book is sound
-    pub reduce-sound : sound (reduceCall n shares s .book) ≡ true
+    pub reduce-sound : sound (reduceCall k n shares s .book) ≡ true
     unfolding reduceCall
     reduce-sound =
-        changed-sound (reduceCall n shares s .refusal) s (reduced n shares (ordersOf s)) e (reduce-accepted .book) reduce-orders-sound room
+        changed-sound (reduceCall k n shares s .refusal) s (reduced k n shares (ordersOf s)) e (reduce-accepted .book) reduce-orders-sound room

@@ -8,7 +8,7 @@ use lib.Dec.{eqb}
 use Rattle.units.specs.Lists.{inRange, orZero, isZero}
 use Rattle.units.proofs.Tests.{true-and}
 use Rattle.units.proofs.Facts.{chain-true, range-true}
-use Rattle.orders.specs.Order.{kindOf, isDisplayed, numberInRange, priceInRange, sharesInRange, minimumInRange, reserveInRange}
+use Rattle.orders.specs.Order.{kindOf, isDisplayed, numberInRange, priceInRange, sharesInRange, securityInRange, minimumInRange, reserveInRange}
 use Rattle.record.specs.Record.{orderOf}
 use Rattle.record.proofs.Rows.{setter-of, all-passed, all-told}
 use Rattle.record.proofs.Orders.{OrderSound, row-sound}
@@ -27,7 +27,7 @@ displayed-kind (suc (suc (suc (suc (suc k))))) m h r e f = absurd (omega (arith,
 module _ (q : AddRequest) where
   -- the numbers that are asked for, in the places of a record
   abbrev row : Bool → List ℕ
-  row b = q .side ∷ q .kind ∷ q .number ∷ q .price ∷ q .size ∷ q .minimum ∷ orZero b 1 ∷ 0 ∷ 0 ∷ 0 ∷ q .hidden ∷ q .refresh ∷ []
+  row b = q .side ∷ q .kind ∷ q .number ∷ q .price ∷ q .size ∷ q .minimum ∷ orZero b 1 ∷ q .security ∷ 0 ∷ 0 ∷ q .hidden ∷ q .refresh ∷ []
 
   requested-row : (b : Bool) → requested q b ≡ orderOf (row b)
   unfolding requested orderOf
@@ -49,7 +49,8 @@ module _ (q : AddRequest) where
       sharesInRange (q .size) ∷
       minimumInRange (q .kind) (q .size) (q .minimum) ∷
       reserveInRange (q .kind) (q .hidden) (q .refresh) ∷
-      (not (eqb (q .kind) 4) || eqb (q .refresh) (q .size)) ∷ [])
+      (not (eqb (q .kind) 4) || eqb (q .refresh) (q .size)) ∷
+      securityInRange (q .security) ∷ [])
       e in
       let k = t .1 in
       let p = k .1 .1 in
@@ -58,4 +59,4 @@ module _ (q : AddRequest) where
       mark-test b (eqb (q .kind) 1 || eqb (q .kind) 4) (λ f. displayed-kind (q .kind) (q .minimum) (q .hidden) (q .refresh) (k .0) (h f)) in
       subst⁻¹ OrderSound (requested-row b)
       (row-sound (row b)
-      (true-and (all-passed (row b) (t .0) (k .1 .0) (p .0) (p .1 .0) (m .0) mark refl) (all-told (row b) (k .0) refl refl (m .1 .0))))
+      (true-and (all-passed (row b) (t .0) (k .1 .0) (p .0) (p .1 .0) (m .0) mark refl) (all-told (row b) (k .0) (m .1 .1 .1 .0) refl (m .1 .0))))

@@ -14,10 +14,20 @@ use Rattle.book.specs.Refusal.{Changed}
 use Rattle.entry.specs.Add.{requested, setsPrice, added, addCall}
 use Rattle.entry.specs.Reduce.{reduced, reduceCall}
 
--- side, kind, number, price, size, minimum, hidden shares, refresh size
+-- security, side, kind, number, price, size, minimum, hidden shares, refresh size
+enterFor : ℕ → ℕ → ℕ → ℕ → ℕ → ℕ → ℕ → ℕ → ℕ → List ℕ → Changed
+enterFor security side kind n price size minimum hidden refresh s =
+    addCall
+    (record { side = side; kind = kind; number = n; price = price; size = size; minimum = minimum; hidden = hidden; refresh = refresh; security = security })
+    s
+
+-- the same in security 0
 enter : ℕ → ℕ → ℕ → ℕ → ℕ → ℕ → ℕ → ℕ → List ℕ → Changed
-enter side kind n price size minimum hidden refresh s =
-    addCall (record { side = side; kind = kind; number = n; price = price; size = size; minimum = minimum; hidden = hidden; refresh = refresh }) s
+enter = enterFor 0
+
+-- a displayed order: security, side, number, price, size
+addFor : ℕ → ℕ → ℕ → ℕ → ℕ → List ℕ → Changed
+addFor security side n price size = enterFor security side 1 n price size 0 0 0
 
 -- an order of kinds 1 to 3
 add : ℕ → ℕ → ℕ → ℕ → ℕ → ℕ → List ℕ → Changed
@@ -133,45 +143,116 @@ hindering =
 -- reduce: its refusals, a minimum lowered, an order that leaves
 reducing : List Bool
 reducing =
-    refusal (reduceCall 0 5 (set two 119 1)) 1 ∷
-    refusal (reduceCall 9 1000000 two) 1 ∷
-    refusal (reduceCall 8 1 (set two 119 1)) 2 ∷
-    refusal (reduceCall 8 1 two) 3 ∷
-    refusal (reduceCall 9 401 two) 7 ∷
-    (eqb (getD (reduceCall 9 150 two .book) 52 0) 250 && eqb (getD (reduceCall 9 150 two .book) 56 0) 250) ∷
-    sameNumbers (reduceCall 9 400 two .book) one ∷
-    sameNumbers (reduceCall 7 500 two .book) (add 2 3 9 100000 400 300 empty .book) ∷
+    refusal (reduceCall 0 0 5 (set two 119 1)) 1 ∷
+    refusal (reduceCall 0 9 1000000 two) 1 ∷
+    refusal (reduceCall 0 8 1 (set two 119 1)) 2 ∷
+    refusal (reduceCall 0 8 1 two) 3 ∷
+    refusal (reduceCall 0 9 401 two) 7 ∷
+    (eqb (getD (reduceCall 0 9 150 two .book) 52 0) 250 && eqb (getD (reduceCall 0 9 150 two .book) 56 0) 250) ∷
+    sameNumbers (reduceCall 0 9 400 two .book) one ∷
+    sameNumbers (reduceCall 0 7 500 two .book) (add 2 3 9 100000 400 300 empty .book) ∷
     -- of a reserve order hidden shares first, then shown ones, and nothing is shown anew; the sum may go, and no more
-    holds (reduceCall 7 30 hides50) 100 20 ∷
-    holds (reduceCall 7 50 hides50) 100 0 ∷
-    holds (reduceCall 7 80 hides50) 70 0 ∷
-    sameNumbers (reduceCall 7 150 hides50 .book) empty ∷
-    refusal (reduceCall 7 151 hides50) 7 ∷ []
+    holds (reduceCall 0 7 30 hides50) 100 20 ∷
+    holds (reduceCall 0 7 50 hides50) 100 0 ∷
+    holds (reduceCall 0 7 80 hides50) 70 0 ∷
+    sameNumbers (reduceCall 0 7 150 hides50 .book) empty ∷
+    refusal (reduceCall 0 7 151 hides50) 7 ∷ []
 
 beyond-worked : all (λ b. b) beyond ≡ true
-unfolding beyond two one empty refusal add enter addCall added setsPrice requested sound ordersOf bookOf encode decode numbersOf orderOf numbersSound newTells withInterest settled
+unfolding beyond two one empty refusal add enter enterFor addCall added setsPrice requested sound ordersOf bookOf encode decode numbersOf orderOf numbersSound newTells withInterest settled
 beyond-worked = refl
 
 reserving-worked : all (λ b. b) reserving ≡ true
-unfolding reserving two one hides50 empty holds refusal reserve add enter addCall added setsPrice requested sound ordersOf bookOf encode decode numbersOf orderOf numbersSound newTells withInterest settled
+unfolding reserving two one hides50 empty holds refusal reserve add enter enterFor addCall added setsPrice requested sound ordersOf bookOf encode decode numbersOf orderOf numbersSound newTells withInterest settled
 reserving-worked = refl
 
 refusing-worked : all (λ b. b) refusing ≡ true
-unfolding refusing two one hides50 least550 empty refusal reserve add enter addCall added setsPrice requested reduceCall reduced sound ordersOf bookOf encode decode numbersOf orderOf numbersSound newTells withInterest settled
+unfolding refusing two one hides50 least550 empty refusal reserve add enter enterFor addCall added setsPrice requested reduceCall reduced sound ordersOf bookOf encode decode numbersOf orderOf numbersSound newTells withInterest settled
 refusing-worked = refl
 
 marking-worked : all (λ b. b) marking ≡ true
-unfolding marking two one empty marks refusal reserve add enter addCall added setsPrice requested sound ordersOf bookOf encode decode numbersOf orderOf numbersSound newTells withInterest settled
+unfolding marking two one empty marks refusal reserve add enter enterFor addCall added setsPrice requested sound ordersOf bookOf encode decode numbersOf orderOf numbersSound newTells withInterest settled
 marking-worked = refl
 
 showing-worked : all (λ b. b) showing ≡ true
-unfolding showing two one empty marks refusal reserve add enter addCall added setsPrice requested sound ordersOf bookOf encode decode numbersOf orderOf numbersSound newTells withInterest settled
+unfolding showing two one empty marks refusal reserve add enter enterFor addCall added setsPrice requested sound ordersOf bookOf encode decode numbersOf orderOf numbersSound newTells withInterest settled
 showing-worked = refl
 
 hindering-worked : all (λ b. b) hindering ≡ true
-unfolding hindering hides50 empty marks refusal reserve add enter addCall added setsPrice requested sound ordersOf bookOf encode decode numbersOf orderOf numbersSound newTells withInterest settled
+unfolding hindering hides50 empty marks refusal reserve add enter enterFor addCall added setsPrice requested sound ordersOf bookOf encode decode numbersOf orderOf numbersSound newTells withInterest settled
 hindering-worked = refl
 
+-- Two securities in one book: order 7 of security 0, a displayed sell of 500 at 100100, and order 9 of security 1, one of 300 at 99900
+mixed : List ℕ
+mixed = addFor 1 2 9 99900 300 one .book
+
+-- numbers rise over both, and there is no third security
+together : List Bool
+together =
+    refusal (addFor 0 2 8 100200 100 mixed) 4 ∷
+    refusal (addFor 0 2 10 100200 100 mixed) 0 ∷
+    refusal (addFor 1 2 8 100200 100 one) 0 ∷
+    refusal (addFor 2 2 10 100200 100 mixed) 1 ∷
+    refusal (addFor 2 2 10 100200 100 (set mixed 119 1)) 1 ∷
+    -- the security stands in byte 21
+    eqb (getD mixed 21 0) 0 ∷
+    eqb (getD mixed 61 0) 1 ∷ []
+
+-- room is the book's: a third order fills it, of whichever security
+filling : List Bool
+filling =
+    refusal (addFor 0 2 11 100200 100 (addFor 0 2 10 100200 100 mixed .book)) 6 ∷
+    refusal (addFor 1 2 11 100200 100 (addFor 0 2 10 100200 100 mixed .book)) 6 ∷ []
+
+-- a buy could trade with sells of its security alone
+apart : List Bool
+apart =
+    refusal (addFor 0 1 10 100000 100 mixed) 0 ∷
+    refusal (addFor 1 1 10 100000 100 mixed) 5 ∷
+    refusal (addFor 0 1 10 100100 100 mixed) 5 ∷
+    refusal (addFor 1 1 10 99899 100 mixed) 0 ∷ []
+
+-- and a sell is marked where it is better than those of its security
+marksApart : List Bool
+marksApart =
+    marks 1 (addFor 1 2 9 99900 300 one) 1 ∷
+    marks 1 (addFor 1 2 9 100100 300 one) 1 ∷
+    marks 1 (addFor 1 2 9 100200 300 one) 1 ∷
+    marks 2 (addFor 0 2 10 100000 100 mixed) 1 ∷
+    marks 2 (addFor 1 2 10 100000 100 mixed) 0 ∷
+    marks 2 (addFor 0 2 10 100100 100 mixed) 0 ∷ []
+
+-- a reduce reaches an order of its security alone
+reducesApart : List Bool
+reducesApart =
+    refusal (reduceCall 1 7 1 mixed) 3 ∷
+    refusal (reduceCall 0 9 1 mixed) 3 ∷
+    refusal (reduceCall 2 9 1 mixed) 1 ∷
+    refusal (reduceCall 2 9 1 (set mixed 119 1)) 1 ∷
+    sameNumbers (reduceCall 1 9 300 mixed .book) one ∷
+    eqb (getD (reduceCall 1 9 50 mixed .book) 52 0) 250 ∷
+    sameNumbers (reduceCall 0 7 500 mixed .book) (addFor 1 2 9 99900 300 empty .book) ∷ []
+
+together-worked : all (λ b. b) together ≡ true
+unfolding together mixed one empty refusal addFor add enter enterFor addCall added setsPrice requested sound ordersOf bookOf encode decode numbersOf orderOf numbersSound newTells withInterest settled
+together-worked = refl
+
+filling-worked : all (λ b. b) filling ≡ true
+unfolding filling mixed one empty refusal addFor add enter enterFor addCall added setsPrice requested sound ordersOf bookOf encode decode numbersOf orderOf numbersSound newTells withInterest settled
+filling-worked = refl
+
+apart-worked : all (λ b. b) apart ≡ true
+unfolding apart mixed one empty refusal addFor add enter enterFor addCall added setsPrice requested sound ordersOf bookOf encode decode numbersOf orderOf numbersSound newTells withInterest settled
+apart-worked = refl
+
+marks-apart-worked : all (λ b. b) marksApart ≡ true
+unfolding marksApart mixed one empty marks refusal addFor add enter enterFor addCall added setsPrice requested sound ordersOf bookOf encode decode numbersOf orderOf numbersSound newTells withInterest settled
+marks-apart-worked = refl
+
+reduces-apart-worked : all (λ b. b) reducesApart ≡ true
+unfolding reducesApart mixed one empty refusal addFor add enter enterFor addCall added setsPrice requested reduceCall reduced sound ordersOf bookOf encode decode numbersOf orderOf numbersSound newTells withInterest settled
+reduces-apart-worked = refl
+
 reducing-worked : all (λ b. b) reducing ≡ true
-unfolding reducing two one hides50 empty holds refusal reserve add enter addCall added setsPrice requested reduceCall reduced sound ordersOf bookOf encode decode numbersOf orderOf numbersSound newTells withInterest settled
+unfolding reducing two one hides50 empty holds refusal reserve add enter enterFor addCall added setsPrice requested reduceCall reduced sound ordersOf bookOf encode decode numbersOf orderOf numbersSound newTells withInterest settled
 reducing-worked = refl

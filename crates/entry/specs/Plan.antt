@@ -40,8 +40,8 @@ abbrev pub outcomeOf : ℕ → Order → Reduction
 outcomeOf start left = cond (isResting left) (outcome.Kept start left) (outcome.Gone start)
 
 -- reduce: its refusal, or what becomes of the order
-unfoldable pub reducePlan : ℕ → ℕ → List ℕ → Reduction
-reducePlan n shares s =
-    let r = reduceCall n shares s .refusal in
-    let f = findCall n s in
+unfoldable pub reducePlan : ℕ → ℕ → ℕ → List ℕ → Reduction
+reducePlan k n shares s =
+    let r = reduceCall k n shares s .refusal in
+    let f = findCall k n s in
     cond (isAccepted r) (outcomeOf (f .start) (reducedOrder shares (decodeOrder form (foundPart f s)))) (outcome.Refused r)

@@ -13,6 +13,7 @@ ghost use mathlib.Core.Path.{_≡_};
 ghost use mathlib.Core.Bool.{true};
 ghost use mathlib.Core.List.{List};
 ghost use Prim.Native.Nat.{ℕ, _*_, _≤_};
+ghost use lib.Dec.{leb};
 ghost use lib.ListN.{length};
 ghost use Rattle.orders.specs.Order.{interestOf, allShares};
 ghost use Rattle.record.specs.Record.{orderOf};
@@ -32,6 +33,7 @@ pub struct AddRequest {
     pub minimum: u32,
     pub hidden: u32,
     pub refresh: u32,
+    pub security: u32,
 }
 
 // A refusal, or the order that comes in and where its record goes.
@@ -60,6 +62,7 @@ pub fn in_range(q: AddRequest) -> bool
         & range::minimum_in_range(q.kind, q.size, q.minimum)
         & range::reserve_in_range(q.kind, q.hidden, q.refresh)
         & (!(q.kind == 4) | (q.refresh == q.size))
+        & range::security_in_range(q.security)
 }
 
 // The order that is asked for, with or without the setter mark.
@@ -73,29 +76,39 @@ fn requested(q: AddRequest, setter: bool) -> Order
         price: Price(q.price),
         size: Shares(q.size),
         setter,
+        security: q.security,
     }
 }
 
-// Whether the new order, of so many shares, shown and hidden, could trade with the resting one of a record's numbers: that is on the other
-// side within its price, with no minimum above these shares.
+// Whether the resting order of a record's numbers, of whichever security, keeps its number from the new one.
+fn is_later(new: Order, resting: Numbers) -> bool
+    ensures { λ r. ⌜ r ≡ leb (new .number) (resting .number) ⌝ }
+{
+    new.number <= resting.number
+}
+
+// Whether the new order, of so many shares, shown and hidden, could trade with the resting one of a record's numbers: that is of its
+// security, on the other side within its price, with no minimum above these shares.
 fn could_trade(new: Order, shares: Shares, resting: Numbers) -> bool
     ensures { λ r. ⌜ ((ns : List ℕ) → resting ≡ namedNumbers ns → shares .0 ≡ allShares (interestOf new) → r ≡ couldTrade new (orderOf ns)) ⌝ }
 {
     let side = new.side;
     let limit = new.price;
-    trading::is_opposite(side, Side::of(resting.side))
+    (resting.security == new.security)
+        & trading::is_opposite(side, Side::of(resting.side))
         & trading::within_limit(side, limit, Price(resting.price))
         & (!(resting.kind == 3) | (resting.minimum <= shares.0))
 }
 
-// Whether the resting order of a record's numbers keeps no setter mark from the new one: it is no displayed order of its side, or the new
-// one's price is better.
+// Whether the resting order of a record's numbers keeps no setter mark from the new one: it is of the other security, or no displayed order
+// of its side, or the new one's price is better.
 fn beats(new: Order, resting: Numbers) -> bool
     ensures { λ r. ⌜ ((ns : List ℕ) → resting ≡ namedNumbers ns → r ≡ beats new (orderOf ns)) ⌝ }
 {
     let side = new.side;
     let price = new.price;
-    trading::is_opposite(side, Side::of(resting.side))
+    !(resting.security == new.security)
+        | trading::is_opposite(side, Side::of(resting.side))
         | !Kind::is_displayed(resting.kind)
         | trading::is_priced_better(side, price, Price(resting.price))
 }
@@ -112,7 +125,7 @@ fn standing_in(book: &[u8], n: usize, new: Order, shares: Shares) -> Standing
     let mut left = n;
     while 0 < left {
         let resting = records::numbers_at(book, at);
-        stale = stale | (new.number <= resting.number);
+        stale = stale | is_later(new, resting);
         trades = trades | could_trade(new, shares, resting);
         best = best & beats(new, resting);
         at += RECORD_BYTES;
@@ -125,8 +138,8 @@ fn standing_in(book: &[u8], n: usize, new: Order, shares: Shares) -> Standing
     }
 }
 
-// The refusal of an add that is checked, or the order to be put last and where. Checked: the numbers are in range, and the book is sound and
-// has n orders.
+// The refusal of an add that is checked, or the order to be put last and where. Checked: the numbers are in range, and the book is sound and n
+// of its records are in use.
 pub fn decide(book: &[u8], n: usize, request: AddRequest) -> Admission
     requires { ⌜ (requestInRange request ≡ true) × (sound (now book) ≡ true) × (n ≡ length (ordersOf (now book))) ⌝ }
     ensures { λ r. ⌜ r ≡ addPlan request (now (book .entry)) ⌝ }

@@ -6,7 +6,7 @@ use units::Shares;
 ghost use mathlib.Core.Path.{_≡_};
 ghost use mathlib.Core.Bool.{true, _&&_};
 ghost use lib.ListN.{length};
-ghost use Rattle.orders.specs.Order.{interestOf, settled, numberInRange, sharesInRange};
+ghost use Rattle.orders.specs.Order.{interestOf, settled, numberInRange, sharesInRange, securityInRange};
 ghost use Rattle.book.specs.Sound.{sound, ordersOf};
 ghost use Rattle.entry.specs.Reduce.{reduction};
 ghost use Rattle.entry.specs.Plan.{outcomeOf, reducePlan};
@@ -19,10 +19,12 @@ pub enum Reduction {
 }
 
 // Whether the numbers are in their ranges.
-pub fn in_range(number: u32, shares: u32) -> bool
-    ensures { λ r. ⌜ r ≡ (numberInRange number && sharesInRange shares) ⌝ }
+pub fn in_range(security: u32, number: u32, shares: u32) -> bool
+    ensures { λ r. ⌜ r ≡ (securityInRange security && numberInRange number && sharesInRange shares) ⌝ }
 {
-    range::number_in_range(number) & range::shares_in_range(shares)
+    range::security_in_range(security)
+        & range::number_in_range(number)
+        & range::shares_in_range(shares)
 }
 
 // The order without the shares.
@@ -45,13 +47,13 @@ fn outcome(start: usize, left: Order) -> Reduction
     }
 }
 
-// The refusal of a reduce that is checked, or what becomes of the order of this number. Checked: the numbers are in range, and the book is
-// sound and has n orders.
-pub fn decide(book: &[u8], n: usize, number: u32, shares: u32) -> Reduction
-    requires { ⌜ ((numberInRange number && sharesInRange shares) ≡ true) × (sound (now book) ≡ true) × (n ≡ length (ordersOf (now book))) ⌝ }
-    ensures { λ r. ⌜ r ≡ reducePlan number shares (now (book .entry)) ⌝ }
+// The refusal of a reduce that is checked, or what becomes of the security's order of this number. Checked: the numbers are in range, and
+// the book is sound and n of its records are in use.
+pub fn decide(book: &[u8], n: usize, security: u32, number: u32, shares: u32) -> Reduction
+    requires { ⌜ ((securityInRange security && numberInRange number && sharesInRange shares) ≡ true) × (sound (now book) ≡ true) × (n ≡ length (ordersOf (now book))) ⌝ }
+    ensures { λ r. ⌜ r ≡ reducePlan security number shares (now (book .entry)) ⌝ }
 {
-    let found = lookup::locate_checked(book, n, number);
+    let found = lookup::locate_checked(book, n, security, number);
     let refusal = found.refusal;
     if refusal != 0 {
         return Reduction::Refused(refusal);

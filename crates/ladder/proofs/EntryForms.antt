@@ -4,7 +4,7 @@ use mathlib.Core.Path.{_≡_, refl}
 use mathlib.Core.Bool.{_&&_}
 use mathlib.Core.List.{List}
 use Rattle.units.specs.Lots.{roundLot}
-use Rattle.orders.specs.Order.{numberInRange, sharesInRange}
+use Rattle.orders.specs.Order.{numberInRange, sharesInRange, securityInRange}
 use Rattle.book.specs.Sound.{sound, ordersOf, bookOf, capacityOf}
 use Rattle.book.specs.Refusal.{refusalOf}
 use Rattle.book.proofs.Refusing.{book-refused}
@@ -33,20 +33,20 @@ add-plain q s = record {
   keeps = add-sound q s;
 }
 
-pub reduce-same : (n shares : ℕ) (s : List ℕ) → reduceCall n shares s .refusal ≡ refusalOf (reduceRefusals n shares (ordersOf s)) (sound s)
+pub reduce-same : (k n shares : ℕ) (s : List ℕ) → reduceCall k n shares s .refusal ≡ refusalOf (reduceRefusals k n shares (ordersOf s)) (sound s)
 unfolding reduceCall
-reduce-same n shares s = refl
+reduce-same k n shares s = refl
 
-pub reduce-leaves : (n shares : ℕ) (s : List ℕ) → (reduceCall n shares s .refusal ≡ 0 → ⊥) → reduceCall n shares s .book ≡ s
+pub reduce-leaves : (k n shares : ℕ) (s : List ℕ) → (reduceCall k n shares s .refusal ≡ 0 → ⊥) → reduceCall k n shares s .book ≡ s
 unfolding reduceCall
-reduce-leaves n shares s h = book-refused (reduceCall n shares s .refusal) s (bookOf (capacityOf s) (reduced n shares (ordersOf s))) h
+reduce-leaves k n shares s h = book-refused (reduceCall k n shares s .refusal) s (bookOf (capacityOf s) (reduced k n shares (ordersOf s))) h
 
-abbrev pub reduce-plain : (n shares : ℕ) (s : List ℕ) → Plain s
-reduce-plain n shares s = record {
-  inRange = numberInRange n && sharesInRange shares;
-  ofBook = reduceRefusals n shares (ordersOf s) .ofBook;
-  call = reduceCall n shares s;
-  same = reduce-same n shares s;
-  leaves = reduce-leaves n shares s;
-  keeps = reduce-sound n shares s;
+abbrev pub reduce-plain : (k n shares : ℕ) (s : List ℕ) → Plain s
+reduce-plain k n shares s = record {
+  inRange = securityInRange k && numberInRange n && sharesInRange shares;
+  ofBook = reduceRefusals k n shares (ordersOf s) .ofBook;
+  call = reduceCall k n shares s;
+  same = reduce-same k n shares s;
+  leaves = reduce-leaves k n shares s;
+  keeps = reduce-sound k n shares s;
 }

@@ -8,12 +8,13 @@ use lib.Dec.{eqb}
 use lib.ListN.{length}
 use borrow.Author.Tests.{eq-eqb, ne-eqb, eqb-true, eqb-false, not-false}
 use Rattle.units.proofs.Facts.{same-numbers}
-use Rattle.book.specs.Sound.{sound, ordersOf}
+use Rattle.book.specs.Sound.{sound}
+use Rattle.book.specs.Lookup.{ordersFor}
 use Rattle.book.specs.Refusal.{Refusal, refuse, firstRefusal, Refusals, refusalOf, Changed}
-use Rattle.book.proofs.Checking.{sound-fits}
 use Rattle.ladder.specs.declared.Seen.{Seen}
 use Rattle.ladder.specs.Ladder.{ladderBytes, madeOf, isOtherLength, isOtherLadder, withLadder, keptLadder, Kept, keeping}
 use Rattle.ladder.specs.Seen.{seenOf}
+use Rattle.ladder.proofs.Security.{security-few}
 use Rattle.ladder.proofs.Making.{ladder-long}
 use Rattle.ladder.proofs.Keeping.{form-refused, form-plain}
 
@@ -39,20 +40,20 @@ none-given (x ∷ xs) ys u y z e = go (x .holds) e (none-given xs ys u y z)
     go true e i = e
     go false e i = i e
 
-module _ (rs : Refusals) (s l : List ℕ) where
+module _ (j : ℕ) (rs : Refusals) (s l : List ℕ) where
   -- a form that is accepted is so as the plain call
-  form-accepted : refusalOf (withLadder s l rs) (sound s) ≡ 0 → refusalOf rs (sound s) ≡ 0
-  form-accepted e = none-given (rs .ofCall) (rs .ofBook) (not (sound s)) (isOtherLength l) (isOtherLadder s l) e
+  pub form-accepted : refusalOf (withLadder j s l rs) (sound s) ≡ 0 → refusalOf rs (sound s) ≡ 0
+  form-accepted e = none-given (rs .ofCall) (rs .ofBook) (not (sound s)) (isOtherLength l) (isOtherLadder j s l) e
 
-  -- with the book's own ladder it is refused what the plain call is
-  own-refusal : l ≡ madeOf s → refusalOf (withLadder s l rs) (sound s) ≡ refusalOf rs (sound s)
-  own-refusal e = skipped (rs .ofCall) (rs .ofBook) (not (sound s)) (isOtherLength l) (isOtherLadder s l) own
+  -- with the security's own ladder it is refused what the plain call is
+  own-refusal : l ≡ madeOf j s → refusalOf (withLadder j s l rs) (sound s) ≡ refusalOf rs (sound s)
+  own-refusal e = skipped (rs .ofCall) (rs .ofBook) (not (sound s)) (isOtherLength l) (isOtherLadder j s l) own
     where
-      own : not (sound s) ≡ false → (isOtherLength l ≡ false) × (isOtherLadder s l ≡ false)
+      own : not (sound s) ≡ false → (isOtherLength l ≡ false) × (isOtherLadder j s l ≡ false)
       own n =
           let f = not-false (sound s) n in
-          let k = ap length e ∙ ladder-long (ordersOf s) (sound-fits s f .1) in
-          (rw (eq-eqb (length l) ladderBytes k), rw (e, same-numbers (madeOf s)))
+          let k = ap length e ∙ ladder-long (ordersFor j s) (security-few j s f) in
+          (rw (eq-eqb (length l) ladderBytes k), rw (e, same-numbers (madeOf j s)))
 
 -- A call that changes a book, without a ladder: which test its numbers pass, what else it may be refused, and what it gives. Refused it
 -- leaves the book, and accepted a sound one.
@@ -64,13 +65,13 @@ pub record Plain (s : List ℕ) : Type 0 where
   pub leaves : (call .refusal ≡ 0 → ⊥) → call .book ≡ s
   pub keeps : call .refusal ≡ 0 → sound (call .book) ≡ true
 
-module _ {s : List ℕ} (plain : Plain s) (l : List ℕ) where
+module _ (j : ℕ) {s : List ℕ} (plain : Plain s) (l : List ℕ) where
   abbrev refusals : Refusals
   refusals = record { ofCall = refuse 1 (not (plain .inRange)) ∷ []; ofBook = plain .ofBook }
 
   -- its form that keeps a ladder
   abbrev pub form : Kept
-  form = keeping refusals (plain .call) s l
+  form = keeping j refusals (plain .call) s l
 
   -- what the caller of the form gets
   pub record Gets (r : ℕ) (b m : List ℕ) : Type 0 where
@@ -78,24 +79,24 @@ module _ {s : List ℕ} (plain : Plain s) (l : List ℕ) where
     pub bytes : b ≡ form .book
     pub ladderBytes : m ≡ form .ladder
     pub keptSound : r ≡ 0 → sound b ≡ true
-    pub keptLadder : r ≡ 0 → m ≡ madeOf b
+    pub keptLadder : r ≡ 0 → m ≡ madeOf j b
     pub unchanged : (r ≡ 0 → ⊥) → (b ≡ s) × (m ≡ l)
-    pub asPlain : l ≡ madeOf s → (r ≡ plain .call .refusal) × (b ≡ plain .call .book)
+    pub asPlain : l ≡ madeOf j s → (r ≡ plain .call .refusal) × (b ≡ plain .call .book)
 
   -- an accepted form's book is the plain call's
   pub accepted-book : form .refusal ≡ 0 → form .book ≡ plain .call .book
   accepted-book e = rw (eq-eqb (form .refusal) 0 e)
 
-  accepted-ladder : form .refusal ≡ 0 → form .ladder ≡ madeOf (form .book)
+  accepted-ladder : form .refusal ≡ 0 → form .ladder ≡ madeOf j (form .book)
   accepted-ladder e = rw (eq-eqb (form .refusal) 0 e)
 
   -- a refused one changes nothing
   refused-bytes : (form .refusal ≡ 0 → ⊥) → (form .book ≡ s) × (form .ladder ≡ l)
   refused-bytes n = (rw (ne-eqb (form .refusal) 0 n), rw (ne-eqb (form .refusal) 0 n))
 
-  own-plain : l ≡ madeOf s → (form .refusal ≡ plain .call .refusal) × (form .book ≡ plain .call .book)
+  own-plain : l ≡ madeOf j s → (form .refusal ≡ plain .call .refusal) × (form .book ≡ plain .call .book)
   own-plain e =
-      let p : form .refusal ≡ plain .call .refusal = own-refusal refusals s l e ∙ sym (plain .same) in
+      let p : form .refusal ≡ plain .call .refusal = own-refusal j refusals s l e ∙ sym (plain .same) in
       (p, go (eqb (form .refusal) 0) refl p)
     where
       go : (b : Bool) → eqb (form .refusal) 0 ≡ b → form .refusal ≡ plain .call .refusal → form .book ≡ plain .call .book
@@ -107,8 +108,8 @@ module _ {s : List ℕ} (plain : Plain s) (l : List ℕ) where
     refused = x;
     bytes = y;
     ladderBytes = z;
-    keptSound = λ e. rw (y, accepted-book (sym x ∙ e)) (plain .keeps (plain .same ∙ form-accepted refusals s l (sym x ∙ e)));
-    keptLadder = λ e. z ∙ accepted-ladder (sym x ∙ e) ∙ ap madeOf (sym y);
+    keptSound = λ e. rw (y, accepted-book (sym x ∙ e)) (plain .keeps (plain .same ∙ form-accepted j refusals s l (sym x ∙ e)));
+    keptLadder = λ e. z ∙ accepted-ladder (sym x ∙ e) ∙ ap (madeOf j) (sym y);
     unchanged = λ n. let w = refused-bytes (λ e. n (x ∙ e)) in (y ∙ w .0, z ∙ w .1);
     asPlain = λ e. let w = own-plain e in (x ∙ w .0, y ∙ w .1);
   }
@@ -118,14 +119,14 @@ module _ {s : List ℕ} (plain : Plain s) (l : List ℕ) where
 
   -- decided as the plain call, with the ladder kept
   gets-plain : {p : ℕ} {b m : List ℕ} → form .refusal ≡ plain .call .refusal → p ≡ plain .call .refusal → b ≡ plain .call .book
-      → m ≡ keptLadder p b l → Gets p b m
+      → m ≡ keptLadder j p b l → Gets p b m
   gets-plain {p} {b} {m} f x y z = go (eqb (form .refusal) 0) refl
     where
       go : (a : Bool) → eqb (form .refusal) 0 ≡ a → Gets p b m
       go true a =
           let e = eqb-true (form .refusal) 0 a in
           gets (x ∙ sym f) (y ∙ sym (accepted-book e))
-          (z ∙ rw (eq-eqb p 0 (x ∙ sym f ∙ e)) (ap madeOf (y ∙ sym (accepted-book e)) ∙ sym (accepted-ladder e)))
+          (z ∙ rw (eq-eqb p 0 (x ∙ sym f ∙ e)) (ap (madeOf j) (y ∙ sym (accepted-book e)) ∙ sym (accepted-ladder e)))
       go false a =
           let n = eqb-false (form .refusal) 0 a in
           let w = refused-bytes n in
@@ -135,14 +136,14 @@ module _ {s : List ℕ} (plain : Plain s) (l : List ℕ) where
   pub form-range : plain .inRange ≡ false → Gets 1 s l
   form-range e = gets-refused (rw e) (λ z. omega arith)
 
-  module _ (e : plain .inRange ≡ true) (c : Seen) (k : c ≡ seenOf s l) where
+  module _ (e : plain .inRange ≡ true) (c : Seen) (k : c ≡ seenOf j s l) where
     -- book and ladder seen and refused,
     pub form-seen : (c .refusal ≡ 0 → ⊥) → Gets (c .refusal) s l
-    form-seen n = gets-refused (sym (form-refused s l c k (plain .ofBook) e n)) n
+    form-seen n = gets-refused (sym (form-refused j s l c k (plain .ofBook) e n)) n
 
     -- or the call made, and the ladder kept.
-    pub form-made : c .refusal ≡ 0 → {p : ℕ} {b m : List ℕ} → p ≡ plain .call .refusal → b ≡ plain .call .book → m ≡ keptLadder p b l → Gets p b m
-    form-made a x y z = gets-plain (form-plain s l c k (plain .ofBook) e a ∙ sym (plain .same)) x y z
+    pub form-made : c .refusal ≡ 0 → {p : ℕ} {b m : List ℕ} → p ≡ plain .call .refusal → b ≡ plain .call .book → m ≡ keptLadder j p b l → Gets p b m
+    form-made a x y z = gets-plain (form-plain j s l c k (plain .ofBook) e a ∙ sym (plain .same)) x y z
 
   -- as the clauses of a contract
   abbrev pub Answers : ℕ → List ℕ → List ℕ → Type 0
@@ -151,9 +152,9 @@ module _ {s : List ℕ} (plain : Plain s) (l : List ℕ) where
       × ((b ≡ form .book)
       × ((m ≡ form .ladder)
       × ((r ≡ 0 → sound b ≡ true)
-      × ((r ≡ 0 → m ≡ madeOf b)
+      × ((r ≡ 0 → m ≡ madeOf j b)
       × (((r ≡ 0 → ⊥) → (b ≡ s) × (m ≡ l))
-      × (l ≡ madeOf s → (r ≡ plain .call .refusal) × (b ≡ plain .call .book)))))))
+      × (l ≡ madeOf j s → (r ≡ plain .call .refusal) × (b ≡ plain .call .book)))))))
 
   pub answers : {r : ℕ} {b m : List ℕ} → Gets r b m → Answers r b m
   answers g = (g .refused, (g .bytes, (g .ladderBytes, (g .keptSound, (g .keptLadder, (g .unchanged, g .asPlain))))))

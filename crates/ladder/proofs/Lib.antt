@@ -5,6 +5,7 @@ pub mod Keys
 pub mod Telling
 pub mod Bytes
 pub mod Walking
+pub mod Security
 pub mod Making
 pub mod Told
 pub mod New

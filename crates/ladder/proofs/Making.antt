@@ -6,7 +6,7 @@ use mathlib.Core.List.{List, _∷_, _++_, map}
 use native.Mathlib.Omega.{arith}
 use lib.ListN.{length, take, drop, replicate, length-append, length-replicate, length-map}
 use native.Mathlib.Nat.{zero-add, suc-add}
-use lib.Seq.{length-take-le, take-at, drop-at, drop-drop, drop-append-add}
+use lib.Seq.{take-at, drop-at, drop-drop, drop-append-add}
 use Rattle.units.specs.Lists.{all, flatMap, isZero, sameNumbers}
 use Rattle.units.proofs.Totals.{length-flat}
 use Rattle.units.proofs.Members.{every-weaken}
@@ -15,16 +15,17 @@ use Rattle.ordering.proofs.Order.{sorted-length}
 use Rattle.orders.specs.declared.order.Order.{Order}
 use Rattle.record.specs.Codec.{replaced}
 use Rattle.book.specs.Sound.{mostOrders, sound, ordersOf}
+use Rattle.book.specs.Lookup.{ordersFor}
 use Rattle.book.proofs.Checking.{sound-fits}
 use Rattle.ladder.specs.Row.{rowBytes, encodeRow}
 use Rattle.ladder.specs.Rows.{rowOf, rowsOf}
-use Rattle.ladder.specs.Along.{alongKeys, Keyed, Lent}
+use Rattle.ladder.specs.Along.{alongKeys, Keyed}
 use Rattle.ladder.specs.Key.{keysFrom}
 use Rattle.ladder.specs.Ladder.{ladderBytes, ladderOf}
 use Rattle.ladder.proofs.Bytes.{length-row}
 use Rattle.ladder.proofs.Walking.{same-all}
 use Rattle.ladder.proofs.Telling.{gathered-few}
-use Rattle.ladder.proofs.Keys.{keys-long, sorted-in, along-rows}
+use Rattle.ladder.proofs.Keys.{keys-few, sorted-in, along-rows}
 
 -- orders have at most as many rows
 pub rows-few : (os : List Order) → length (rowsOf os) ≤ length os
@@ -44,16 +45,16 @@ ladder-long os h =
       rows-few os,
     )
 
--- the keys of a sound book's orders, in order, are of its orders, and going along them gives its rows
-pub keys-keyed : (s : List ℕ) → sound s ≡ true → {ks : List ℕ} → ks ≡ sorted (keysFrom 0 (ordersOf s)) → Keyed s ks
-keys-keyed s f {ks} k = record {
+-- the keys of a security's orders in a sound book, in order, are of its orders, and going along them gives the rows of these
+pub keys-keyed : (j : ℕ) (s : List ℕ) → sound s ≡ true → {ks : List ℕ} → ks ≡ sorted (keysFrom j 0 (ordersOf s)) → Keyed s ks
+keys-keyed j s f {ks} k = record {
   isSound = f;
-  places = rw k (every-weaken (λ x h. h .within) (sorted (keysFrom 0 (ordersOf s))) (sorted-in s f));
-  few = omega (arith, ap length k, sorted-length (keysFrom 0 (ordersOf s)), keys-long 0 (ordersOf s), sound-fits s f .1);
+  places = rw k (every-weaken (λ x h. h .within) (sorted (keysFrom j 0 (ordersOf s))) (sorted-in s f j));
+  few = omega (arith, ap length k, sorted-length (keysFrom j 0 (ordersOf s)), keys-few j 0 (ordersOf s), sound-fits s f .1);
 }
 
-pub keys-rows : (s : List ℕ) → sound s ≡ true → {ks : List ℕ} → ks ≡ sorted (keysFrom 0 (ordersOf s)) → alongKeys s ks ≡ rowsOf (ordersOf s)
-keys-rows s f k = ap (alongKeys s) k ∙ along-rows s f
+pub keys-rows : (j : ℕ) (s : List ℕ) → sound s ≡ true → {ks : List ℕ} → ks ≡ sorted (keysFrom j 0 (ordersOf s)) → alongKeys s ks ≡ rowsOf (ordersFor j s)
+keys-rows j s f k = ap (alongKeys s) k ∙ along-rows s f j
 
 -- zeros from a place on, and fewer from a later place on
 zeros-later : (l : List ℕ) (at k n : ℕ) → drop at l ≡ replicate (k + n) 0 → drop (at + k) l ≡ replicate n 0
@@ -124,17 +125,3 @@ pub held : (os : List Order) → length os ≤ 256 → (l : List ℕ) → length
     → (sameNumbers (take (24 * length (rowsOf os)) l) (flatMap encodeRow (rowsOf os)) && all isZero (drop (24 * length (rowsOf os)) l)) ≡ sameNumbers l (ladderOf os)
 unfolding ladderOf
 held os most l e = same-all (rowsOf os) l (rowBytes * (mostOrders - length (rowsOf os))) (e ∙ omega (arith, rows-few os))
-
--- Memory for keys, of which the first n are lent for a book of n orders.
-pub record Room (s : List ℕ) (n : ℕ) (keys spare ladder : List ℕ) : Type 0 where
-  pub within : n ≤ length keys
-  pub long : length (take n keys) ≡ n
-  pub lent : Lent s (take n keys) spare ladder
-
--- memory for 256 is enough
-pub enough-room : (s : List ℕ) (n : ℕ) (keys spare ladder : List ℕ) → sound s ≡ true → n ≡ length (ordersOf s) → length keys ≡ 256 → length spare ≡ 256
-    → length ladder ≡ ladderBytes → Room s n keys spare ladder
-enough-room s n keys spare ladder f c k e l =
-    let m : n ≤ length keys = omega (arith, sound-fits s f .1) in
-    let t = length-take-le n keys m in
-    record { within = m; long = t; lent = record { isSound = f; forEach = t ∙ c; asMuch = omega arith; long = l } }

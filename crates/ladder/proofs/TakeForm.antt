@@ -58,7 +58,7 @@ module _ (q : TakeRequest) (s x l : List ℕ) where
 
   -- what holds of refusal, book and ladder
   abbrev pub Gets : ℕ → List ℕ → List ℕ → Type 0
-  Gets = forms.Gets book-alone l
+  Gets = forms.Gets (q .security) book-alone l
 
   -- what the caller gets
   abbrev pub Answers : Taken → List ℕ → List ℕ → List ℕ → Type 0
@@ -69,9 +69,9 @@ module _ (q : TakeRequest) (s x l : List ℕ) where
       × ((m ≡ form .ladder)
       × (FairTake q s (record { taken = r; book = b; executions = y })
       × ((r .refusal ≡ 0 → sound b ≡ true)
-      × ((r .refusal ≡ 0 → m ≡ madeOf b)
+      × ((r .refusal ≡ 0 → m ≡ madeOf (q .security) b)
       × (((r .refusal ≡ 0 → ⊥) → (b ≡ s) × (y ≡ x) × (m ≡ l))
-      × (l ≡ madeOf s → (r ≡ plain .taken) × (b ≡ plain .book) × (y ≡ plain .executions)))))))))
+      × (l ≡ madeOf (q .security) s → (r ≡ plain .taken) × (b ≡ plain .book) × (y ≡ plain .executions)))))))))
 
   -- refused otherwise than the plain take, it gives its number alone and leaves the execution buffer
   form-refused : (form .taken .refusal ≡ 0 → ⊥) → (form .taken ≡ record { refusal = form .taken .refusal; count = 0; left = 0 }) × (form .executions ≡ x)
@@ -108,13 +108,13 @@ module _ (q : TakeRequest) (s x l : List ℕ) where
   answers {r} {b} {y} {m} g t u like =
       let k = kept g in
       let accepted : r .refusal ≡ 0 → (r ≡ plain .taken) × (b ≡ plain .book) × (y ≡ plain .executions) =
-      λ e. let p = form-plain (like e) in (t ∙ p .0, g .bytes ∙ forms.accepted-book book-alone l (sym (g .refused) ∙ e), u ∙ p .1) in
+      λ e. let p = form-plain (like e) in (t ∙ p .0, g .bytes ∙ forms.accepted-book (q .security) book-alone l (sym (g .refused) ∙ e), u ∙ p .1) in
       (t, (k .1, (u, (k .2, (fair accepted, (g .keptSound, (g .keptLadder, (rest g t u, plainly g t u))))))))
     where
       rest : Gets (r .refusal) b m → r ≡ form .taken → y ≡ form .executions → (r .refusal ≡ 0 → ⊥) → (b ≡ s) × (y ≡ x) × (m ≡ l)
       rest g t u n = let w = g .unchanged n in (w .0, u ∙ form-refused (λ e. n (ap (λ (v : Taken). v .refusal) t ∙ e)) .1, w .1)
 
-      plainly : Gets (r .refusal) b m → r ≡ form .taken → y ≡ form .executions → l ≡ madeOf s
+      plainly : Gets (r .refusal) b m → r ≡ form .taken → y ≡ form .executions → l ≡ madeOf (q .security) s
           → (r ≡ plain .taken) × (b ≡ plain .book) × (y ≡ plain .executions)
       plainly g t u e =
           let w = g .asPlain e in
@@ -130,18 +130,18 @@ module _ (q : TakeRequest) (s x l : List ℕ) where
 
   -- a number out of its range
   pub take-range : requestInRange q ≡ false → Answers (record { refusal = 1; count = 0; left = 0 }) s x l
-  take-range e = refuses (forms.form-range book-alone l e) (λ z. omega arith)
+  take-range e = refuses (forms.form-range (q .security) book-alone l e) (λ z. omega arith)
 
-  module _ (e : requestInRange q ≡ true) (c : Seen) (k : c ≡ seenOf s l) where
+  module _ (e : requestInRange q ≡ true) (c : Seen) (k : c ≡ seenOf (q .security) s l) where
     -- book and ladder are seen, and refused
     pub take-seen : (c .refusal ≡ 0 → ⊥) → Answers (record { refusal = c .refusal; count = 0; left = 0 }) s x l
-    take-seen n = refuses (forms.form-seen book-alone l e c k n) n
+    take-seen n = refuses (forms.form-seen (q .security) book-alone l e c k n) n
 
     -- or the take is made, and the ladder kept
     pub take-made : c .refusal ≡ 0 → {r : Taken} {b y m : List ℕ} → r ≡ plain .taken → b ≡ plain .book → y ≡ plain .executions
-        → m ≡ keptLadder (r .refusal) b l → Answers r b y m
+        → m ≡ keptLadder (q .security) (r .refusal) b l → Answers r b y m
     take-made a {r} t u v w =
-        let g = forms.form-made book-alone l e c k a (ap (λ (z : Taken). z .refusal) t) u w in
+        let g = forms.form-made (q .security) book-alone l e c k a (ap (λ (z : Taken). z .refusal) t) u w in
         let f : form .taken .refusal ≡ plain .taken .refusal = sym (kept g .0) ∙ ap (λ (z : Taken). z .refusal) t in
         let p = form-plain f in
         answers g (t ∙ sym (p .0)) (v ∙ sym (p .1)) (λ z. f)

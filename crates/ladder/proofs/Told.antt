@@ -13,9 +13,8 @@ use Rattle.orders.specs.declared.order.Side.{Side}
 use Rattle.orders.specs.declared.order.Order.{Order}
 use Rattle.orders.specs.Order.{interestOf}
 use Rattle.record.proofs.Orders.{OrderSound, order-facts}
-use Rattle.book.specs.Sound.{mostOrders, sound, ordersOf}
-use Rattle.book.proofs.Soundness.{orders-sound}
-use Rattle.book.proofs.Checking.{sound-fits}
+use Rattle.book.specs.Sound.{mostOrders, sound}
+use Rattle.book.specs.Lookup.{ordersFor}
 use Rattle.ladder.specs.declared.row.Row.{Row}
 use Rattle.ladder.specs.Row.{rowBytes, encodeRow}
 use Rattle.ladder.specs.Rows.{rowOf, joined, rowsOf, gathered}
@@ -26,6 +25,7 @@ use Rattle.ladder.proofs.Inserting.{gathered-every, joined-priced}
 use Rattle.ladder.proofs.Telling.{gathered-order, gathered-sum, single-sum}
 use Rattle.ladder.proofs.Bytes.{Amounts, amounts-one, amounts-within, gathered-amounts, length-row, rows-read}
 use Rattle.ladder.proofs.Making.{rows-few}
+use Rattle.ladder.proofs.Security.{security-few, security-sound}
 
 total-ones : {A : Type 0} (xs : List A) → total (λ x. 1) xs ≡ length xs
 total-ones [] = refl
@@ -82,5 +82,5 @@ module _ (os : List Order) (h : Every OrderSound os) (most : length os ≤ 256) 
         other = sums (λ r. r .other .0) (λ o. interestOf o .nonDisplayed) (λ a b. refl) (λ o. refl);
       }
 
-pub book-told : (s : List ℕ) → sound s ≡ true → Tells (ordersOf s) (madeOf s) (rowsOf (ordersOf s))
-book-told s f = told (ordersOf s) (orders-sound s f .each) (sound-fits s f .1)
+pub book-told : (j : ℕ) (s : List ℕ) → sound s ≡ true → Tells (ordersFor j s) (madeOf j s) (rowsOf (ordersFor j s))
+book-told j s f = told (ordersFor j s) (security-sound j s f) (security-few j s f)

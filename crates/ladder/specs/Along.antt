@@ -30,9 +30,10 @@ pub record Keyed (s ks : List ℕ) : Type 0 where
   pub places : Every (λ k. placeIn k < length (ordersOf s)) ks
   pub few : length ks ≤ 256
 
--- memory for a key of each order of a sound book, as much again to sort them, and a ladder
-pub record Lent (s keys spare ladder : List ℕ) : Type 0 where
+-- memory for a key of each of a sound book's n orders, as much again to sort them, and a ladder
+pub record Lent (s : List ℕ) (n : ℕ) (keys spare ladder : List ℕ) : Type 0 where
   pub isSound : sound s ≡ true
-  pub forEach : length keys ≡ length (ordersOf s)
-  pub asMuch : length keys ≤ length spare
+  pub counted : n ≡ length (ordersOf s)
+  pub forEach : n ≤ length keys
+  pub asMuch : n ≤ length spare
   pub long : length ladder ≡ ladderBytes

@@ -20,8 +20,8 @@ use Rattle.ladder.specs.Depth.{rowsAt, ordersAt, Tells}
 -- a displayed sell of 30 at 5, and a hidden buy of 20 at 3
 orders : List Order
 orders =
-    record { side = Sell; kind = Displayed; number = 1; price = record { 0 = 5 }; size = record { 0 = 30 }; setter = false } ∷
-    record { side = Buy; kind = NonDisplayed; number = 2; price = record { 0 = 3 }; size = record { 0 = 20 }; setter = false } ∷ []
+    record { side = Sell; kind = Displayed; number = 1; price = record { 0 = 5 }; size = record { 0 = 30 }; setter = false; security = 0 } ∷
+    record { side = Buy; kind = NonDisplayed; number = 2; price = record { 0 = 3 }; size = record { 0 = 20 }; setter = false; security = 0 } ∷ []
 
 -- a row of one order
 row : Side → ℕ → ℕ → ℕ → Row

@@ -27,6 +27,7 @@ order side kind number price size = record {
   price = record { 0 = price };
   size = record { 0 = size };
   setter = false;
+  security = 0;
 }
 
 -- the numbers of rows: side, 0, price, displayed and other shares, orders, 0

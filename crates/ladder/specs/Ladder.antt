@@ -6,7 +6,9 @@ use lib.ListN.{length, replicate}
 use lib.Dec.{eqb}
 use Rattle.units.specs.Lists.{flatMap, orZero, sameNumbers}
 use Rattle.orders.specs.declared.order.Order.{Order}
+use Rattle.orders.specs.Order.{securityInRange}
 use Rattle.book.specs.Sound.{sound, mostOrders, ordersOf, capacityOf}
+use Rattle.book.specs.Lookup.{ordersFor}
 use Rattle.book.specs.Refusal.{Refusals, refuse, refusalOf, isAccepted, Changed}
 use Rattle.entry.specs.declared.admission.AddRequest.{AddRequest}
 use Rattle.entry.specs.Add.{addRefusals, addCall}
@@ -25,42 +27,42 @@ ladderBytes = rowBytes * mostOrders
 unfoldable pub ladderOf : List Order → List ℕ
 ladderOf os = let rs = rowsOf os in flatMap encodeRow rs ++ replicate (rowBytes * (mostOrders - length rs)) 0
 
--- what a new call makes of a book
-abbrev pub madeOf : List ℕ → List ℕ
-madeOf s = ladderOf (ordersOf s)
+-- what a new call makes of a security's orders in a book
+abbrev pub madeOf : ℕ → List ℕ → List ℕ
+madeOf k s = ladderOf (ordersFor k s)
 
 -- refusal 9: the ladder's length isn't 6,144 bytes
 abbrev pub isOtherLength : List ℕ → Bool
 isOtherLength l = not (eqb (length l) ladderBytes)
 
--- refusal 10: the ladder isn't the book's, to the last byte
-abbrev pub isOtherLadder : List ℕ → List ℕ → Bool
-isOtherLadder s l = not (sameNumbers l (madeOf s))
+-- refusal 10: the ladder isn't that of the security in the book, to the last byte
+abbrev pub isOtherLadder : ℕ → List ℕ → List ℕ → Bool
+isOtherLadder k s l = not (sameNumbers l (madeOf k s))
 
--- the new call is refused 2, 9
-abbrev pub ladderRefusals : List ℕ → Refusals
-ladderRefusals l = record { ofCall = []; ofBook = refuse 9 (isOtherLength l) ∷ [] }
+-- the new call is refused 1, 2, 9
+abbrev pub ladderRefusals : ℕ → List ℕ → Refusals
+ladderRefusals k l = record { ofCall = refuse 1 (not (securityInRange k)) ∷ []; ofBook = refuse 9 (isOtherLength l) ∷ [] }
 
 -- what it answers, and the ladder afterwards
 pub record LadderAnswer : Type 0 where
   pub refusal : ℕ
   pub ladder : List ℕ
 
-unfoldable pub ladderCall : List ℕ → List ℕ → LadderAnswer
-ladderCall s l =
-    let r = refusalOf (ladderRefusals l) (sound s) in
-    record { refusal = r; ladder = cond (isAccepted r) (madeOf s) l }
+unfoldable pub ladderCall : ℕ → List ℕ → List ℕ → LadderAnswer
+ladderCall k s l =
+    let r = refusalOf (ladderRefusals k l) (sound s) in
+    record { refusal = r; ladder = cond (isAccepted r) (madeOf k s) l }
 
--- A call that keeps a ladder has the refusals of the plain call, and directly after 2 the two of the ladder.
-abbrev pub withLadder : List ℕ → List ℕ → Refusals → Refusals
-withLadder s l rs = record {
+-- A call that keeps a security's ladder has the refusals of the plain call, and directly after 2 the two of the ladder.
+abbrev pub withLadder : ℕ → List ℕ → List ℕ → Refusals → Refusals
+withLadder k s l rs = record {
   ofCall = rs .ofCall;
-  ofBook = refuse 9 (isOtherLength l) ∷ refuse 10 (isOtherLadder s l) ∷ rs .ofBook;
+  ofBook = refuse 9 (isOtherLength l) ∷ refuse 10 (isOtherLadder k s l) ∷ rs .ofBook;
 }
 
 -- the ladder that it leaves with a book: a new one of that book, unless it is refused
-abbrev pub keptLadder : ℕ → List ℕ → List ℕ → List ℕ
-keptLadder r book l = cond (isAccepted r) (madeOf book) l
+abbrev pub keptLadder : ℕ → ℕ → List ℕ → List ℕ → List ℕ
+keptLadder k r book l = cond (isAccepted r) (madeOf k book) l
 
 -- what a call that changes the book and keeps its ladder gives
 pub record Kept : Type 0 where
@@ -69,19 +71,19 @@ pub record Kept : Type 0 where
   pub ladder : List ℕ
 
 -- with the refusals of the plain call, and what that gives
-abbrev pub keeping : Refusals → Changed → List ℕ → List ℕ → Kept
-keeping rs plain s l =
-    let r = refusalOf (withLadder s l rs) (sound s) in
+abbrev pub keeping : ℕ → Refusals → Changed → List ℕ → List ℕ → Kept
+keeping k rs plain s l =
+    let r = refusalOf (withLadder k s l rs) (sound s) in
     let b = cond (isAccepted r) (plain .book) s in
-    record { refusal = r; book = b; ladder = keptLadder r b l }
+    record { refusal = r; book = b; ladder = keptLadder k r b l }
 
 -- add
 unfoldable pub addLadderCall : AddRequest → List ℕ → List ℕ → Kept
-addLadderCall q s l = keeping (addRefusals q (capacityOf s) (ordersOf s)) (addCall q s) s l
+addLadderCall q s l = keeping (q .security) (addRefusals q (capacityOf s) (ordersOf s)) (addCall q s) s l
 
 -- reduce
-unfoldable pub reduceLadderCall : ℕ → ℕ → List ℕ → List ℕ → Kept
-reduceLadderCall n shares s l = keeping (reduceRefusals n shares (ordersOf s)) (reduceCall n shares s) s l
+unfoldable pub reduceLadderCall : ℕ → ℕ → ℕ → List ℕ → List ℕ → Kept
+reduceLadderCall k n shares s l = keeping k (reduceRefusals k n shares (ordersOf s)) (reduceCall k n shares s) s l
 
 -- take: the numbers that it returns, the book, the execution buffer and the ladder
 pub record TakeKept : Type 0 where
@@ -93,7 +95,7 @@ pub record TakeKept : Type 0 where
 unfoldable pub takeLadderCall : TakeRequest → List ℕ → List ℕ → List ℕ → TakeKept
 takeLadderCall q s x l =
     let plain = takeCall q s x in
-    let kept = keeping (takeRefusals q (outcomeOf q (ordersOf s) .executions) x) (record { refusal = plain .taken .refusal; book = plain .book }) s l in
+    let kept = keeping (q .security) (takeRefusals q (outcomeOf q (ordersOf s) .executions) x) (record { refusal = plain .taken .refusal; book = plain .book }) s l in
     let b = isAccepted (kept .refusal) in
     record {
       taken = record { refusal = kept .refusal; count = orZero b (plain .taken .count); left = orZero b (plain .taken .left) };

@@ -1,5 +1,5 @@
-// The depth ladder: totals for each side and price, kept beside a book. The call that makes one, and the forms of add, reduce and take that
-// keep it: each makes the decisions of the plain call, after it saw that the ladder is the book's.
+// The depth ladder: totals for each side and price of a security, kept beside a book. The call that makes one, and the forms of add, reduce
+// and take that keep it: each makes the decisions of the plain call, after it saw that the ladder is the book's.
 mod row;
 mod rows;
 
@@ -8,13 +8,15 @@ use entry::admission::AddRequest;
 use entry::reduction;
 use matching::TakeRequest;
 use matching::Taken;
+use orders::range;
 use rows::LADDER_BYTES;
 use rows::LADDER_ROWS;
 ghost use mathlib.Core.Path.{_≡_};
 ghost use mathlib.Core.Bool.{true};
 ghost use Prim.Native.Nat.{_-_, _*_, _≤_};
 ghost use lib.ListN.{length, drop, replicate};
-ghost use Rattle.book.specs.Sound.{sound, ordersOf};
+ghost use Rattle.book.specs.Sound.{sound};
+ghost use Rattle.book.specs.Lookup.{ordersFor};
 ghost use Rattle.entry.specs.Add.{addCall};
 ghost use Rattle.entry.specs.Reduce.{reduceCall};
 ghost use Rattle.matching.specs.TakeCall.{takeCall};
@@ -25,75 +27,79 @@ ghost use Rattle.ladder.specs.Ladder.{addLadderCall, reduceLadderCall, t
 ghost use Rattle.ladder.specs.Rows.{rowsOf};
 ghost use Rattle.ladder.specs.Depth.{Tells};
 
-// The ladder of the book, all its bytes, whatever stood there.
-pub fn ladder(book: &[u8], ladder: &mut [u8]) -> u32
-    ensures refused { λ r. ⌜ r ≡ ladderCall (now (book .entry)) (now (ladder .entry)) .refusal ⌝ }
-    ensures ladder_bytes { λ r. ⌜ now (ladder .exit) ≡ ladderCall (now (book .entry)) (now (ladder .entry)) .ladder ⌝ }
-    ensures tells { λ r. ⌜ (r ≡ 0 → Tells (ordersOf (now (book .entry))) (now (ladder .exit)) (rowsOf (ordersOf (now (book .entry))))) ⌝ }
+// The ladder of the security in the book, all its bytes, whatever stood there. The number may have any value.
+pub fn ladder(book: &[u8], ladder: &mut [u8], security: u32) -> u32
+    ensures refused { λ r. ⌜ r ≡ ladderCall security (now (book .entry)) (now (ladder .entry)) .refusal ⌝ }
+    ensures ladder_bytes { λ r. ⌜ now (ladder .exit) ≡ ladderCall security (now (book .entry)) (now (ladder .entry)) .ladder ⌝ }
+    ensures tells { λ r. ⌜ (r ≡ 0 → Tells (ordersFor security (now (book .entry))) (now (ladder .exit)) (rowsOf (ordersFor security (now (book .entry))))) ⌝ }
 {
-    let checked = lookup::check(book);
-    let refusal = checked.refusal;
+    if !range::security_in_range(security) {
+        return 1;
+    }
+    let occupancy = lookup::occupancy(book);
+    let refusal = occupancy.refusal;
     if refusal != 0 {
         return refusal;
     }
     if ladder.len() != LADDER_BYTES {
         return 9;
     }
-    rows::renew(book, checked.orders as usize, ladder, LADDER_ROWS);
+    rows::renew(book, occupancy.records, security, ladder, LADDER_ROWS);
     0
 }
 
-// What the forms see of book and ladder before they decide: refusals 2, 9 and 10, the number of orders, and that of rows.
+// What the forms see of book and ladder before they decide: refusals 2, 9 and 10, the number of records in use, and that of the security's rows.
 struct Seen {
     refusal: u32,
-    orders: usize,
+    records: usize,
     rows: usize,
 }
 
 // A refusal, without other numbers.
 fn unseen(refusal: u32) -> Seen
-    ensures { λ r. ⌜ r ≡ record { refusal = refusal; orders = 0; rows = 0 } ⌝ }
+    ensures { λ r. ⌜ r ≡ record { refusal = refusal; records = 0; rows = 0 } ⌝ }
 {
     Seen {
         refusal,
-        orders: 0,
+        records: 0,
         rows: 0,
     }
 }
 
-fn see(book: &[u8], ladder: &[u8]) -> Seen
-    ensures { λ r. ⌜ r ≡ seenOf (now (book .entry)) (now (ladder .entry)) ⌝ }
+fn see(book: &[u8], security: u32, ladder: &[u8]) -> Seen
+    ensures { λ r. ⌜ r ≡ seenOf security (now (book .entry)) (now (ladder .entry)) ⌝ }
 {
-    let checked = lookup::check(book);
-    let refusal = checked.refusal;
+    let occupancy = lookup::occupancy(book);
+    let refusal = occupancy.refusal;
     if refusal != 0 {
         return unseen(refusal);
     }
     if ladder.len() != LADDER_BYTES {
         return unseen(9);
     }
-    let n = checked.orders as usize;
-    let held = rows::hold(book, n, ladder);
+    let n = occupancy.records;
+    let held = rows::hold(book, n, security, ladder);
     if !held.same {
         return unseen(10);
     }
     Seen {
         refusal: 0,
-        orders: n,
+        records: n,
         rows: held.rows,
     }
 }
 
-// A call with this refusal number left the book so. Was it accepted, the book's ladder takes the place of the one before, of so many rows.
-fn keep(book: &[u8], ladder: &mut [u8], rows: usize, refusal: u32)
+// A call for the security with this refusal number left the book so. Was it accepted, the security's ladder takes the place of the one
+// before, of so many rows.
+fn keep(book: &[u8], security: u32, ladder: &mut [u8], rows: usize, refusal: u32)
     requires { ⌜ ((refusal ≡ 0 → sound (now book) ≡ true))
         × (length (now ladder) ≡ ladderBytes)
         × (rows ≤ 256)
         × (drop (24 * rows) (now ladder) ≡ replicate (24 * (256 - rows)) 0) ⌝ }
-    ensures { λ _. ⌜ now (ladder .exit) ≡ keptLadder refusal (now (book .entry)) (now (ladder .entry)) ⌝ }
+    ensures { λ _. ⌜ now (ladder .exit) ≡ keptLadder security refusal (now (book .entry)) (now (ladder .entry)) ⌝ }
 {
     if refusal == 0 {
-        rows::renew(book, lookup::count(book), ladder, rows);
+        rows::renew(book, lookup::occupied(book), security, ladder, rows);
     }
 }
 
@@ -103,45 +109,45 @@ pub fn add(book: &mut [u8], ladder: &mut [u8], request: AddRequest) -> u32
     ensures bytes { λ r. ⌜ now (book .exit) ≡ addLadderCall request (now (book .entry)) (now (ladder .entry)) .book ⌝ }
     ensures ladder_bytes { λ r. ⌜ now (ladder .exit) ≡ addLadderCall request (now (book .entry)) (now (ladder .entry)) .ladder ⌝ }
     ensures kept_sound { λ r. ⌜ (r ≡ 0 → sound (now (book .exit)) ≡ true) ⌝ }
-    ensures kept_ladder { λ r. ⌜ (r ≡ 0 → now (ladder .exit) ≡ madeOf (now (book .exit))) ⌝ }
+    ensures kept_ladder { λ r. ⌜ (r ≡ 0 → now (ladder .exit) ≡ madeOf (request .security) (now (book .exit))) ⌝ }
     ensures unchanged { λ r. ⌜ ((r ≡ 0 → ⊥) → (now (book .exit) ≡ now (book .entry)) × (now (ladder .exit) ≡ now (ladder .entry))) ⌝ }
-    ensures as_plain { λ r. ⌜ (now (ladder .entry) ≡ madeOf (now (book .entry))
+    ensures as_plain { λ r. ⌜ (now (ladder .entry) ≡ madeOf (request .security) (now (book .entry))
         → (r ≡ addCall request (now (book .entry)) .refusal) × (now (book .exit) ≡ addCall request (now (book .entry)) .book)) ⌝ }
 {
     if !admission::in_range(request) {
         return 1;
     }
-    let seen = see(book, ladder);
+    let seen = see(book, request.security, ladder);
     let refusal = seen.refusal;
     if refusal != 0 {
         return refusal;
     }
-    let added = entry::add_checked(book, seen.orders, request);
-    keep(book, ladder, seen.rows, added);
+    let added = entry::add_checked(book, seen.records, request);
+    keep(book, request.security, ladder, seen.rows, added);
     added
 }
 
 // Reduce, with the ladder kept.
-pub fn reduce(book: &mut [u8], ladder: &mut [u8], number: u32, shares: u32) -> u32
-    ensures refused { λ r. ⌜ r ≡ reduceLadderCall number shares (now (book .entry)) (now (ladder .entry)) .refusal ⌝ }
-    ensures bytes { λ r. ⌜ now (book .exit) ≡ reduceLadderCall number shares (now (book .entry)) (now (ladder .entry)) .book ⌝ }
-    ensures ladder_bytes { λ r. ⌜ now (ladder .exit) ≡ reduceLadderCall number shares (now (book .entry)) (now (ladder .entry)) .ladder ⌝ }
+pub fn reduce(book: &mut [u8], ladder: &mut [u8], security: u32, number: u32, shares: u32) -> u32
+    ensures refused { λ r. ⌜ r ≡ reduceLadderCall security number shares (now (book .entry)) (now (ladder .entry)) .refusal ⌝ }
+    ensures bytes { λ r. ⌜ now (book .exit) ≡ reduceLadderCall security number shares (now (book .entry)) (now (ladder .entry)) .book ⌝ }
+    ensures ladder_bytes { λ r. ⌜ now (ladder .exit) ≡ reduceLadderCall security number shares (now (book .entry)) (now (ladder .entry)) .ladder ⌝ }
     ensures kept_sound { λ r. ⌜ (r ≡ 0 → sound (now (book .exit)) ≡ true) ⌝ }
-    ensures kept_ladder { λ r. ⌜ (r ≡ 0 → now (ladder .exit) ≡ madeOf (now (book .exit))) ⌝ }
+    ensures kept_ladder { λ r. ⌜ (r ≡ 0 → now (ladder .exit) ≡ madeOf security (now (book .exit))) ⌝ }
     ensures unchanged { λ r. ⌜ ((r ≡ 0 → ⊥) → (now (book .exit) ≡ now (book .entry)) × (now (ladder .exit) ≡ now (ladder .entry))) ⌝ }
-    ensures as_plain { λ r. ⌜ (now (ladder .entry) ≡ madeOf (now (book .entry))
-        → (r ≡ reduceCall number shares (now (book .entry)) .refusal) × (now (book .exit) ≡ reduceCall number shares (now (book .entry)) .book)) ⌝ }
+    ensures as_plain { λ r. ⌜ (now (ladder .entry) ≡ madeOf security (now (book .entry))
+        → (r ≡ reduceCall security number shares (now (book .entry)) .refusal) × (now (book .exit) ≡ reduceCall security number shares (now (book .entry)) .book)) ⌝ }
 {
-    if !reduction::in_range(number, shares) {
+    if !reduction::in_range(security, number, shares) {
         return 1;
     }
-    let seen = see(book, ladder);
+    let seen = see(book, security, ladder);
     let refusal = seen.refusal;
     if refusal != 0 {
         return refusal;
     }
-    let reduced = entry::reduce_checked(book, seen.orders, number, shares);
-    keep(book, ladder, seen.rows, reduced);
+    let reduced = entry::reduce_checked(book, seen.records, security, number, shares);
+    keep(book, security, ladder, seen.rows, reduced);
     reduced
 }
 
@@ -158,10 +164,10 @@ pub fn take(
     ensures ladder_bytes { λ r. ⌜ now (ladder .exit) ≡ takeLadderCall request (now (book .entry)) (now (executions .entry)) (now (ladder .entry)) .ladder ⌝ }
     ensures fair { λ r. ⌜ FairTake request (now (book .entry)) (record { taken = r; book = now (book .exit); executions = now (executions .exit) }) ⌝ }
     ensures kept_sound { λ r. ⌜ (r .refusal ≡ 0 → sound (now (book .exit)) ≡ true) ⌝ }
-    ensures kept_ladder { λ r. ⌜ (r .refusal ≡ 0 → now (ladder .exit) ≡ madeOf (now (book .exit))) ⌝ }
+    ensures kept_ladder { λ r. ⌜ (r .refusal ≡ 0 → now (ladder .exit) ≡ madeOf (request .security) (now (book .exit))) ⌝ }
     ensures unchanged { λ r. ⌜ ((r .refusal ≡ 0 → ⊥)
         → (now (book .exit) ≡ now (book .entry)) × (now (executions .exit) ≡ now (executions .entry)) × (now (ladder .exit) ≡ now (ladder .entry))) ⌝ }
-    ensures as_plain { λ r. ⌜ (now (ladder .entry) ≡ madeOf (now (book .entry))
+    ensures as_plain { λ r. ⌜ (now (ladder .entry) ≡ madeOf (request .security) (now (book .entry))
         → (r ≡ takeCall request (now (book .entry)) (now (executions .entry)) .taken)
         × (now (book .exit) ≡ takeCall request (now (book .entry)) (now (executions .entry)) .book)
         × (now (executions .exit) ≡ takeCall request (now (book .entry)) (now (executions .entry)) .executions)) ⌝ }
@@ -169,12 +175,12 @@ pub fn take(
     if !take::in_range(request) {
         return take::refused(1);
     }
-    let seen = see(book, ladder);
+    let seen = see(book, request.security, ladder);
     let refusal = seen.refusal;
     if refusal != 0 {
         return take::refused(refusal);
     }
-    let taken = take::take_checked(book, executions, seen.orders, request);
-    keep(book, ladder, seen.rows, taken.refusal);
+    let taken = take::take_checked(book, executions, seen.records, request);
+    keep(book, request.security, ladder, seen.rows, taken.refusal);
     taken
 }

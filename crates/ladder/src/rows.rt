@@ -1,4 +1,4 @@
-// The rows of a book's orders: the orders put in the ladder's order, and a row for each stretch of one side and price.
+// The rows of a security's orders in a book: the orders put in the ladder's order, and a row for each stretch of one side and price.
 use crate::row;
 use crate::row::ROW_BYTES;
 use crate::row::Row;
@@ -17,6 +17,7 @@ ghost use Rattle.units.specs.Lists.{flatMap, sameNumbers};
 ghost use Rattle.ordering.specs.Sorted.{sorted};
 ghost use Rattle.record.specs.Codec.{replaced};
 ghost use Rattle.book.specs.Sound.{sound, ordersOf, orderAt};
+ghost use Rattle.book.specs.Lookup.{ordersFor};
 ghost use Rattle.ladder.specs.Row.{encodeRow};
 ghost use Rattle.ladder.specs.Rows.{rowOf, rowsOf};
 ghost use Rattle.ladder.specs.Along.{alongKeys, Keyed, Lent};
@@ -49,27 +50,33 @@ fn key_of(order: Order, place: usize) -> u64
     256 * (rank_of(side, price) as u64) + place as u64
 }
 
-// The keys of the book's orders, in the order of their records.
-fn write_keys(book: &[u8], keys: &mut [u64])
-    requires { ⌜ (sound (now book) ≡ true) × (length (now keys) ≡ length (ordersOf (now book))) ⌝ }
-    ensures { λ _. ⌜ now (keys .exit) ≡ keysFrom 0 (ordersOf (now (book .entry))) ⌝ }
+// The keys of the security's orders, in the order of their records, at the front. Gives their number.
+fn write_keys(book: &[u8], n: usize, security: u32, keys: &mut [u64]) -> usize
+    requires { ⌜ (sound (now book) ≡ true) × (n ≡ length (ordersOf (now book))) × (n ≤ length (now keys)) ⌝ }
+    ensures { λ r. ⌜ (r ≤ n) × (take r (now (keys .exit)) ≡ keysFrom security 0 (ordersOf (now (book .entry)))) ⌝ }
 {
+    let mut count = 0;
     let mut i = 0;
-    while i < keys.len() {
-        keys[i] = key_of(records::order_at(book, RECORD_BYTES * i), i);
+    while i < n {
+        let order = records::order_at(book, RECORD_BYTES * i);
+        keys[count] = key_of(order, i);
+        count += units::one_if(order.security == security) as usize;
         i += 1;
     }
+    count
 }
 
 // The same, in the ladder's order. The spare keys are lent, and anything.
-fn sort_keys(book: &[u8], keys: &mut [u64], spare: &mut [u64])
+fn sort_keys(book: &[u8], n: usize, security: u32, keys: &mut [u64], spare: &mut [u64]) -> usize
     requires { ⌜ (sound (now book) ≡ true)
-        × (length (now keys) ≡ length (ordersOf (now book)))
-        × (length (now keys) ≤ length (now spare)) ⌝ }
-    ensures { λ _. ⌜ now (keys .exit) ≡ sorted (keysFrom 0 (ordersOf (now (book .entry)))) ⌝ }
+        × (n ≡ length (ordersOf (now book)))
+        × (n ≤ length (now keys))
+        × (n ≤ length (now spare)) ⌝ }
+    ensures { λ r. ⌜ (r ≤ length (now (keys .exit))) × (take r (now (keys .exit)) ≡ sorted (keysFrom security 0 (ordersOf (now (book .entry))))) ⌝ }
 {
-    write_keys(book, keys);
-    ordering::sort(keys, spare);
+    let count = write_keys(book, n, security, keys);
+    ordering::sort(&mut keys[..count], spare);
+    count
 }
 
 // The row of a key's order alone.
@@ -173,29 +180,44 @@ fn no_keys() -> [u64; 256] {
     [0; 256]
 }
 
-// The ladder of a sound book takes the place of one that has zeros behind its first rows, so many. There is a key for each order, and no less
-// spare; both are lent, and anything.
-fn renew_in(book: &[u8], keys: &mut [u64], spare: &mut [u64], ladder: &mut [u8], rows: usize)
-    requires { ⌜ Lent (now book) (now keys) (now spare) (now ladder)
+// The ladder of a security in a sound book of n orders takes the place of one that has zeros behind its first rows, so many. There is a key
+// for each order, and no less spare; both are lent, and anything.
+fn renew_in(
+    book: &[u8],
+    n: usize,
+    security: u32,
+    keys: &mut [u64],
+    spare: &mut [u64],
+    ladder: &mut [u8],
+    rows: usize,
+)
+    requires { ⌜ Lent (now book) n (now keys) (now spare) (now ladder)
         × (rows ≤ 256)
         × (drop (24 * rows) (now ladder) ≡ replicate (24 * (256 - rows)) 0) ⌝ }
-    ensures { λ _. ⌜ now (ladder .exit) ≡ madeOf (now (book .entry)) ⌝ }
+    ensures { λ _. ⌜ now (ladder .exit) ≡ madeOf security (now (book .entry)) ⌝ }
 {
-    sort_keys(book, keys, spare);
-    let count = write_rows(book, keys, ladder);
+    let orders = sort_keys(book, n, security, keys, spare);
+    let count = write_rows(book, &keys[..orders], ladder);
     if count < rows {
         bytes::clear(ladder, ROW_BYTES * count, ROW_BYTES * (rows - count));
     }
 }
 
-// Whether the ladder is that of a sound book, to the last byte; and its number of rows. Keys are lent as above.
-fn hold_in(book: &[u8], keys: &mut [u64], spare: &mut [u64], ladder: &[u8]) -> Held
-    requires { ⌜ Lent (now book) (now keys) (now spare) (now ladder) ⌝ }
-    ensures { λ r. ⌜ (r .rows ≡ length (rowsOf (ordersOf (now (book .entry)))))
-        × (r .same ≡ sameNumbers (now (ladder .entry)) (madeOf (now (book .entry)))) ⌝ }
+// Whether the ladder is that of a security in a sound book, to the last byte; and its number of rows. Keys are lent as above.
+fn hold_in(
+    book: &[u8],
+    n: usize,
+    security: u32,
+    keys: &mut [u64],
+    spare: &mut [u64],
+    ladder: &[u8],
+) -> Held
+    requires { ⌜ Lent (now book) n (now keys) (now spare) (now ladder) ⌝ }
+    ensures { λ r. ⌜ (r .rows ≡ length (rowsOf (ordersFor security (now (book .entry)))))
+        × (r .same ≡ sameNumbers (now (ladder .entry)) (madeOf security (now (book .entry)))) ⌝ }
 {
-    sort_keys(book, keys, spare);
-    let held = hold_rows(book, keys, ladder);
+    let orders = sort_keys(book, n, security, keys, spare);
+    let held = hold_rows(book, &keys[..orders], ladder);
     let rows = held.rows;
     let begins = held.same;
     let clear = bytes::zeros(&ladder[ROW_BYTES * rows..]);
@@ -205,26 +227,26 @@ fn hold_in(book: &[u8], keys: &mut [u64], spare: &mut [u64], ladder: &[u8]) -> H
     }
 }
 
-// The same for a book of n orders, with memory for the keys of as many as a book may have.
-pub(crate) fn renew(book: &[u8], n: usize, ladder: &mut [u8], rows: usize)
+// The same with memory for the keys of as many orders as a book may have.
+pub(crate) fn renew(book: &[u8], n: usize, security: u32, ladder: &mut [u8], rows: usize)
     requires { ⌜ (sound (now book) ≡ true)
         × (n ≡ length (ordersOf (now book)))
         × (length (now ladder) ≡ ladderBytes)
         × (rows ≤ 256)
         × (drop (24 * rows) (now ladder) ≡ replicate (24 * (256 - rows)) 0) ⌝ }
-    ensures { λ _. ⌜ now (ladder .exit) ≡ madeOf (now (book .entry)) ⌝ }
+    ensures { λ _. ⌜ now (ladder .exit) ≡ madeOf security (now (book .entry)) ⌝ }
 {
     let mut keys = no_keys();
     let mut spare = no_keys();
-    renew_in(book, &mut keys[..n], &mut spare, ladder, rows);
+    renew_in(book, n, security, &mut keys, &mut spare, ladder, rows);
 }
 
-pub(crate) fn hold(book: &[u8], n: usize, ladder: &[u8]) -> Held
+pub(crate) fn hold(book: &[u8], n: usize, security: u32, ladder: &[u8]) -> Held
     requires { ⌜ (sound (now book) ≡ true) × (n ≡ length (ordersOf (now book))) × (length (now ladder) ≡ ladderBytes) ⌝ }
-    ensures { λ r. ⌜ (r .rows ≡ length (rowsOf (ordersOf (now (book .entry)))))
-        × (r .same ≡ sameNumbers (now (ladder .entry)) (madeOf (now (book .entry)))) ⌝ }
+    ensures { λ r. ⌜ (r .rows ≡ length (rowsOf (ordersFor security (now (book .entry)))))
+        × (r .same ≡ sameNumbers (now (ladder .entry)) (madeOf security (now (book .entry)))) ⌝ }
 {
     let mut keys = no_keys();
     let mut spare = no_keys();
-    hold_in(book, &mut keys[..n], &mut spare, ladder)
+    hold_in(book, n, security, &mut keys, &mut spare, ladder)
 }

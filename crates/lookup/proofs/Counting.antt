@@ -1,4 +1,4 @@
--- Marked orders counted as a book is read, and that fewer than two are apart.
+-- Orders that pass a test counted as a book is read, and that fewer than two marked ones are apart.
 use Prim.Native.Nat.{ℕ, suc, _+_, _-_, _≤_, _<_}
 use mathlib.Core.Path.{_≡_, refl, ap, _∙_}
 use mathlib.Core.Bool.{Bool, true, false, and-false}
@@ -10,24 +10,24 @@ use Rattle.orders.specs.declared.order.Order.{Order}
 use Rattle.record.specs.Record.{decodeOrder}
 use Rattle.book.specs.Sound.{form, sameSetter, settersSound, firstOrders}
 use Rattle.book.proofs.Walking.{orders-read, orders-done}
-use Rattle.lookup.specs.Setters.{markedIn}
+use Rattle.lookup.specs.Setters.{countOf, markedIn}
 use Rattle.lookup.proofs.Marks.{apart}
 
--- From byte `at` on, with n orders to go.
-module _ (s : List ℕ) (at n : ℕ) where
+-- Orders that pass a test, from byte `at` on, with n orders to go.
+module _ (p : Order → Bool) (s : List ℕ) (at n : ℕ) where
   -- The first order, as it is read.
   module _ (h : 0 < n) (o : Order) (q : o ≡ decodeOrder form (take 40 (drop at s))) where
-    -- where it is marked, one more is than of those behind it
-    pub marked-more : o .setter ≡ true → markedIn (firstOrders n (drop at s)) ≡ suc (markedIn (firstOrders (n - 1) (drop (at + 40) s)))
-    marked-more e = ap markedIn (orders-read s at n h o q) ∙ rw e
+    -- where it passes, one more does than of those behind it
+    pub counted-more : p o ≡ true → countOf p (firstOrders n (drop at s)) ≡ suc (countOf p (firstOrders (n - 1) (drop (at + 40) s)))
+    counted-more e = ap (countOf p) (orders-read s at n h o q) ∙ rw e
 
-    -- where it is not, as many are
-    pub marked-same : o .setter ≡ false → markedIn (firstOrders n (drop at s)) ≡ markedIn (firstOrders (n - 1) (drop (at + 40) s))
-    marked-same e = ap markedIn (orders-read s at n h o q) ∙ rw e
+    -- where it doesn't, as many do
+    pub counted-same : p o ≡ false → countOf p (firstOrders n (drop at s)) ≡ countOf p (firstOrders (n - 1) (drop (at + 40) s))
+    counted-same e = ap (countOf p) (orders-read s at n h o q) ∙ rw e
 
-  -- where there are no orders, none is marked
-  pub marked-done : n ≤ 0 → markedIn (firstOrders n (drop at s)) ≡ 0
-  marked-done h = ap markedIn (orders-done s at n h)
+  -- where there are no orders, none does
+  pub counted-done : n ≤ 0 → countOf p (firstOrders n (drop at s)) ≡ 0
+  counted-done h = ap (countOf p) (orders-done s at n h)
 
 -- an order has no mark in common with others of which none is marked
 none-apart : (o : Order) (os : List Order) → markedIn os ≤ 0 → any (sameSetter o) os ≡ false

@@ -1,3 +1,4 @@
 pub mod Marks
 pub mod Counting
+pub mod Ranges
 pub mod Gathering

@@ -1,22 +1,23 @@
-// Setter marks: at most one per side and price. Marked orders are compared with each other alone, by a key gathered from each once.
+// Setter marks: at most one per security, side and price. Marked orders are compared with each other alone, by a key gathered from each once.
 use book::records;
 use book::records::RECORD_BYTES;
 use orders::order::Order;
 ghost use mathlib.Core.Path.{_≡_};
+ghost use mathlib.Core.Bool.{true};
 ghost use Prim.Native.Nat.{_*_, _≤_};
 ghost use lib.Dec.{eqb};
 ghost use lib.ListN.{length};
-ghost use Rattle.units.specs.Lists.{any};
+ghost use Rattle.units.specs.Lists.{all, any};
 ghost use Rattle.book.specs.Sound.{settersSound, firstOrders};
-ghost use Rattle.lookup.specs.Setters.{setterKey, markedIn};
+ghost use Rattle.lookup.specs.Setters.{setterKey, hasSecurity, markedIn};
 
-// One number for an order's side and price.
+// One number for an order's security, side and price.
 fn key_of(order: Order) -> u64
     ensures { λ r. ⌜ r ≡ setterKey order ⌝ }
 {
     let side = order.side;
     let price = order.price;
-    4 * (price.0 as u64) + (side.number() as u64)
+    8 * (price.0 as u64) + 4 * (order.security as u64) + (side.number() as u64)
 }
 
 // Whether one of the keys is this one.
@@ -54,10 +55,11 @@ fn count_marked(book: &[u8], n: usize) -> usize
     count
 }
 
-// Whether no two of the first n orders are marked at one side and price, by the key of each marked order and those of the ones before it.
+// Whether no two of the first n orders, of securities that there are, are marked at one security, side and price: by the key of each marked
+// order and those of the ones before it.
 fn are_apart_by_key(book: &[u8], n: usize) -> bool
     requires { ⌜ (40 * n ≤ length (now book)) × (n ≤ 256) ⌝ }
-    ensures { λ r. ⌜ r ≡ settersSound (firstOrders n (now (book .entry))) ⌝ }
+    ensures { λ r. ⌜ (all hasSecurity (firstOrders n (now (book .entry))) ≡ true → r ≡ settersSound (firstOrders n (now (book .entry)))) ⌝ }
 {
     let mut keys = no_keys();
     let mut marked = 0;
@@ -82,7 +84,7 @@ fn are_apart_by_key(book: &[u8], n: usize) -> bool
 // The same, without a comparison where fewer than two are marked.
 pub(crate) fn are_apart(book: &[u8], n: usize) -> bool
     requires { ⌜ (40 * n ≤ length (now book)) × (n ≤ 256) ⌝ }
-    ensures { λ r. ⌜ r ≡ settersSound (firstOrders n (now (book .entry))) ⌝ }
+    ensures { λ r. ⌜ (all hasSecurity (firstOrders n (now (book .entry))) ≡ true → r ≡ settersSound (firstOrders n (now (book .entry)))) ⌝ }
 {
     if count_marked(book, n) < 2 {
         true

@@ -1,16 +1,15 @@
 -- Where no order is a reserve order, a take gives what it gave before there were any.
-use Prim.Native.Nat.{ℕ, _-_}
+use Prim.Native.Nat.{ℕ}
 use mathlib.Core.Path.{_≡_, refl, sym, ap, _∙_}
 use mathlib.Core.Bool.{Bool, true, false, not, true≢false}
-use mathlib.Core.List.{List, [], _∷_}
+use mathlib.Core.List.{List, [], _∷_, List·Memᴰ}
 use native.Mathlib.Nat.{zero-add, add-zero}
 use lib.Dec.{ltb}
 use borrow.Author.Tests.{not-true}
-use Rattle.units.specs.Lists.{total, filter, consIf, zipWith}
+use Rattle.units.specs.Lists.{filter, consIf, zipWith}
 use Rattle.units.specs.Lots.{roundLot}
 use Rattle.units.proofs.Tests.{and-true}
 use Rattle.units.proofs.Members.{all-member}
-use Rattle.units.proofs.Totals.{map-same}
 use Rattle.orders.specs.declared.order.Kind.{Kind}
 use Rattle.orders.specs.declared.order.Kind.the-variants.{Displayed, NonDisplayed, MinimumQuantity, Reserve}
 use Rattle.orders.specs.declared.order.Order.{Order}
@@ -19,15 +18,15 @@ use Rattle.orders.specs.Order.{Interest, less, allShares, interestBy, interestO
 use Rattle.record.proofs.Settling.{settled-reserve}
 use Rattle.book.specs.Sound.{ordersOf}
 use Rattle.matching.specs.declared.Algorithm.{Algorithm}
-use Rattle.matching.specs.declared.Paragraph.{Paragraph}
 use Rattle.matching.specs.declared.TakeRequest.{TakeRequest}
 use Rattle.matching.specs.declared.incoming.Incoming.{Incoming}
 use Rattle.matching.specs.Levels.{priceLevels}
-use Rattle.matching.specs.Paragraph.{algorithmOf, paragraphs, Group, groupOf, partOf}
-use Rattle.matching.specs.Take.{used, allocationAt, allocationsAt, allocationsOver, allocations, lossesOf, outcome}
+use Rattle.matching.specs.Paragraph.{algorithmOf, Group, partOf}
+use Rattle.matching.specs.Take.{allocations, lossesOf, outcome}
 use Rattle.matching.specs.TakeCall.{incomingOf, outcomeOf, takeCall}
 use Rattle.matching.specs.Parts.{withoutReserve}
-use Rattle.matching.specs.Before.{interestBefore, sizeBefore, kindBefore, settledBefore, partBefore, rowBefore, rowsBefore, levelsBefore, outcomeBefore, BeforeTake}
+use Rattle.matching.specs.Before.{interestBefore, sizeBefore, kindBefore, settledBefore, partBefore, outcomeBefore, BeforeTake}
+use Rattle.matching.proofs.WayBy.{levels-by}
 use Rattle.matching.proofs.Taking.{take-orders, take-left, take-executions}
 
 -- Of kinds 1 to 3.
@@ -95,30 +94,20 @@ without-left (l ∷ ls) (o ∷ os) h =
     without-if (isResting (settled l o)) (settled l o) (filter isResting (zipWith settled ls os))
     (settled-reserve l o ∙ not-true (isReserve (o .kind)) (a .0)) (without-left ls os (a .1))
 
-module _ (lot : ℕ) (alg : Algorithm) (t : Taker) (os : List Order) (h : withoutReserve os ≡ true) where
-  same-row : (price : ℕ) (g : Paragraph) (left : ℕ) → rowBefore lot alg t os price g left ≡ allocationAt lot alg t os price g left
-  unfolding rowBefore allocationAt
-  same-row price g left =
-      rw (map-same {f = partBefore t price (groupOf lot alg g)} {g = partOf t price (groupOf lot alg g)} os
-      (λ o m. same-part o (not-true (isReserve (o .kind)) (all-member (λ o. not (isReserve (o .kind))) os h o m)) t price (groupOf lot alg g)))
-
-  same-rows : (price : ℕ) (gs : List Paragraph) (left : ℕ) → rowsBefore lot alg t os price gs left ≡ allocationsAt lot alg t os price gs left
-  unfolding rowsBefore allocationsAt
-  same-rows price [] left = refl
-  same-rows price (g ∷ gs) left = rw (same-row price g left, same-rows price gs (left - used (allocationAt lot alg t os price g left)))
-
-  same-levels : (prices : List ℕ) (left : ℕ) → levelsBefore lot alg t os prices left ≡ allocationsOver lot alg t os prices left
-  unfolding levelsBefore allocationsOver
-  same-levels [] left = refl
-  same-levels (price ∷ prices) left =
-      rw (same-rows price paragraphs left, same-levels prices (left - total used (allocationsAt lot alg t os price paragraphs left)))
+-- all its orders have the parts that they had
+same-parts : (t : Taker) (os : List Order) → withoutReserve os ≡ true → (price : ℕ) (g : Group) (o : Order) → List·Memᴰ o os
+    → partBefore t price g o ≡ partOf t price g o
+same-parts t os h price g o m = same-part o (not-true (isReserve (o .kind)) (all-member (λ o. not (isReserve (o .kind))) os h o m)) t price g
 
 -- the outcomes are one
 pub outcome-before : (lot : ℕ) (alg : Algorithm) (i : Incoming) (os : List Order) → withoutReserve os ≡ true
     → outcome lot alg i os ≡ outcomeBefore lot alg i os
 unfolding outcome outcomeBefore allocations
 outcome-before lot alg i os h =
-    rw (same-levels lot alg (i .taker) os h (priceLevels (i .taker) os) (i .size .0), same-left (lossesOf os (allocations lot alg i os)) os h)
+    rw (
+      levels-by lot alg (i .taker) (partBefore (i .taker)) os (same-parts (i .taker) os h) (priceLevels (i .taker) os) (i .size .0),
+      same-left (lossesOf os (allocations lot alg i os)) os h,
+    )
 
 -- and so is what an accepted take answers
 pub take-before : (q : TakeRequest) (s x : List ℕ) → BeforeTake q s (takeCall q s x)

@@ -21,7 +21,7 @@ use Rattle.orders.specs.declared.order.Kind.the-variants.{Displayed, NonDisplay
 use Rattle.orders.specs.declared.order.Order.{Order}
 use Rattle.orders.specs.declared.order.Taker.{Taker}
 use Rattle.orders.specs.Order.{shown, hidden, interestBy, interestOf, sideNumber, sharesOf, isMinimumQuantity, minimumOf, priceOf, sizeOf}
-use Rattle.orders.specs.Trading.{isOpposite, isOppositeOf}
+use Rattle.orders.specs.Trading.{isOpposite, ofSecurity, isOppositeOf}
 use Rattle.book.specs.Sound.{sameSetter, settersSound}
 use Rattle.matching.specs.declared.Algorithm.{Algorithm}
 use Rattle.matching.specs.declared.Algorithm.the-variants.{PriceTime, ProRata, PriceSetter}
@@ -86,7 +86,16 @@ module _ (t : Taker) (price : ℕ) (g : Group) where
       let y = setter-stands b k in
       let u = stands-means a (x .0) in
       let v = stands-means b (y .0) in
-      rw (x .1, y .1, eq-eqb _ _ (ap sideNumber (opposite-same (t .side) (a .side) (b .side) (u .0) (v .0))), eq-eqb (priceOf a) (priceOf b) (u .1 ∙ sym (v .1)))
+      let d = and-true (ofSecurity (t .security) a) (isOpposite (t .side) (a .side)) (u .0) in
+      let e = and-true (ofSecurity (t .security) b) (isOpposite (t .side) (b .side)) (v .0) in
+      let k = eqb-true (a .security) (t .security) (d .0) ∙ sym (eqb-true (b .security) (t .security) (e .0)) in
+      rw (
+        x .1,
+        y .1,
+        eq-eqb (a .security) (b .security) k,
+        eq-eqb _ _ (ap sideNumber (opposite-same (t .side) (a .side) (b .side) (d .1) (e .1))),
+        eq-eqb (priceOf a) (priceOf b) (u .1 ∙ sym (v .1)),
+      )
 
   module _ (os : List Order) where
     -- at most one order of a group is the setter

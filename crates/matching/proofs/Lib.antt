@@ -17,4 +17,5 @@ pub mod TakeNamed
 pub mod Counting
 pub mod OnePerPart
 pub mod Reserve
+pub mod WayBy
 pub mod Before

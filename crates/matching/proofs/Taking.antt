@@ -17,7 +17,7 @@ use Rattle.book.proofs.Settlement.{settle-sound, settle-fewer}
 use Rattle.book.proofs.Refusing.{Accepted, accepted}
 use Rattle.book.proofs.Changing.{changed-orders, changed-sound}
 use Rattle.orders.specs.declared.order.Order.{Order}
-use Rattle.orders.specs.Order.{priceInRange, sharesInRange}
+use Rattle.orders.specs.Order.{priceInRange, sharesInRange, securityInRange}
 use Rattle.record.specs.Execution.{executionBytes, executionsIn}
 use Rattle.record.proofs.Executions.{ExecutionFits, executions-in}
 use Rattle.matching.specs.declared.Algorithm.{Algorithm}
@@ -93,7 +93,7 @@ module _ (q : TakeRequest) (s x : List ℕ) (e : takeCall q s x .taken .refusal 
   pub take-fits : Every ExecutionFits (out .executions)
   unfolding outcomeOf
   take-fits =
-      let a = chain-true (inRange 1 2 (q .side)) (priceInRange (q .limit) ∷ sharesInRange (q .size) ∷ inRange 1 3 (q .algorithm) ∷ []) in-range in
+      let a = chain-true (inRange 1 2 (q .side)) (priceInRange (q .limit) ∷ sharesInRange (q .size) ∷ inRange 1 3 (q .algorithm) ∷ securityInRange (q .security) ∷ []) in-range in
       executions-fit roundLot (omega arith) (algorithmOf (q .algorithm)) (incomingOf q) (ordersOf s) sound-orders (range-true 1 999999 (q .size) (a .1 .1 .0) .1)
 
   -- and are read back

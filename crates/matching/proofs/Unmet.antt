@@ -17,7 +17,7 @@ use Rattle.orders.specs.Order.{Visibility, shown, hidden, Interest, allShares, 
 use Rattle.orders.specs.Order.{isMinimumQuantity, isReserve, minimumOf, priceOf, sizeOf}
 use Rattle.orders.specs.Trading.{isOppositeOf, withinLimit, isTradable}
 use Rattle.orders.proofs.Interests.{all-settled}
-use Rattle.record.proofs.Settling.{settled-side, settled-price, settled-size, settled-minimum, settled-minimum-quantity}
+use Rattle.record.proofs.Settling.{settled-security, settled-side, settled-price, settled-size, settled-minimum, settled-minimum-quantity}
 use Rattle.book.proofs.Soundness.{OrdersSound, order-shares}
 use Rattle.matching.specs.declared.Algorithm.{Algorithm}
 use Rattle.matching.specs.declared.incoming.Incoming.{Incoming}
@@ -99,4 +99,4 @@ module _ (lot : ℕ) (hl : 0 < lot) (alg : Algorithm) (i : Incoming) (os : List 
       rw (z .3) (rests-unmet o l (i .size .0 - total used rows) (order-shares os sound o k .0) v (p .1) b)
     where
       same : (o : Order) (l : Interest) → isTradable (i .taker) (settled l o) ≡ isTradable (i .taker) o
-      same o l = rw (settled-side l o, settled-price l o)
+      same o l = rw (settled-security l o, settled-side l o, settled-price l o)

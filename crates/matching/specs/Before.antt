@@ -3,7 +3,7 @@
 use Prim.Native.Nat.{ℕ, _-_, min}
 use mathlib.Core.Path.{_≡_}
 use mathlib.Core.Bool.{true, cond, _&&_}
-use mathlib.Core.List.{List, [], _∷_, _++_, map}
+use mathlib.Core.List.{List}
 use lib.Dec.{ltb, eqb}
 use Rattle.units.specs.Lists.{filter, total, zipWith}
 use Rattle.units.specs.Lots.{roundLot}
@@ -17,14 +17,14 @@ use Rattle.orders.specs.Trading.{isOppositeOf}
 use Rattle.record.specs.Execution.{executionsIn}
 use Rattle.book.specs.Sound.{ordersOf}
 use Rattle.matching.specs.declared.Algorithm.{Algorithm}
-use Rattle.matching.specs.declared.Paragraph.{Paragraph}
 use Rattle.matching.specs.declared.TakeRequest.{TakeRequest}
 use Rattle.matching.specs.declared.incoming.Incoming.{Incoming}
 use Rattle.matching.specs.Levels.{priceLevels}
-use Rattle.matching.specs.Paragraph.{algorithmOf, paragraphs, Group, groupOf, allot}
-use Rattle.matching.specs.Take.{Allocation, used, executionsOf, lossesOf, Outcome}
+use Rattle.matching.specs.Paragraph.{algorithmOf, Group}
+use Rattle.matching.specs.Take.{used, executionsOf, lossesOf, Outcome}
 use Rattle.matching.specs.TakeCall.{incomingOf, TakeAnswer}
 use Rattle.matching.specs.Parts.{withoutReserve}
+use Rattle.matching.specs.WayBy.{levelsBy}
 
 -- all of an order's size is of one visibility
 abbrev pub interestBefore : Kind → ℕ → Interest
@@ -51,7 +51,7 @@ kindBefore (Reserve h r) i = Reserve h r
 unfoldable pub settledBefore : Interest → Order → Order
 settledBefore loss o =
     let i = less (interestBefore (o .kind) (sizeOf o)) loss in
-    record { side = o .side; kind = kindBefore (o .kind) i; number = o .number; price = o .price; size = record { 0 = sizeBefore (o .kind) i }; setter = o .setter }
+    record { side = o .side; kind = kindBefore (o .kind) i; number = o .number; price = o .price; size = record { 0 = sizeBefore (o .kind) i }; setter = o .setter; security = o .security }
 
 -- what of an order stands in a group at a price
 unfoldable pub partBefore : Taker → ℕ → Group → Order → Part
@@ -60,31 +60,10 @@ partBefore t price g o =
     cond (isOppositeOf t o && eqb (priceOf o) price && (ltb 0 n && g .holds (isMinimumQuantity (o .kind)) n))
     (record { number = o .number; size = n; minimum = minimumOf (o .kind); setter = o .setter }) (noPart (o .number))
 
-module _ (lot : ℕ) (alg : Algorithm) (t : Taker) (os : List Order) where
-  -- one paragraph at one price
-  unfoldable pub rowBefore : ℕ → Paragraph → ℕ → Allocation
-  rowBefore price g left =
-      let group = groupOf lot alg g in
-      record { price = price; paragraph = g; visibility = group .visibility; allotment = allot lot alg g left (map (partBefore t price group) os) }
-
-  -- one price
-  unfoldable pub rowsBefore : ℕ → List Paragraph → ℕ → List Allocation
-  rowsBefore price [] left = []
-  rowsBefore price (g ∷ gs) left =
-      let a = rowBefore price g left in
-      a ∷ rowsBefore price gs (left - used a)
-
-  -- one price after another
-  unfoldable pub levelsBefore : List ℕ → ℕ → List Allocation
-  levelsBefore [] left = []
-  levelsBefore (price ∷ prices) left =
-      let level = rowsBefore price paragraphs left in
-      level ++ levelsBefore prices (left - total used level)
-
 -- what a take yielded: an order stayed while it had shares
 unfoldable pub outcomeBefore : ℕ → Algorithm → Incoming → List Order → Outcome
 outcomeBefore lot alg i os =
-    let rows = levelsBefore lot alg (i .taker) os (priceLevels (i .taker) os) (i .size .0) in
+    let rows = levelsBy lot alg (partBefore (i .taker)) os (priceLevels (i .taker) os) (i .size .0) in
     record {
       executions = executionsOf os rows;
       left = i .size .0 - total used rows;

@@ -9,7 +9,7 @@ use Rattle.orders.specs.declared.order.Kind.the-variants.{Displayed, NonDisplay
 use Rattle.orders.specs.declared.order.Order.{Order}
 use Rattle.matching.specs.declared.incoming.Incoming.{Incoming}
 
--- side, kind, setter mark, number, price, size
+-- an order of security 0: side, kind, setter mark, number, price, size
 abbrev order : Side → Kind → Bool → ℕ → ℕ → ℕ → Order
 order side kind setter n price size = record {
   side = side;
@@ -18,6 +18,7 @@ order side kind setter n price size = record {
   price = record { 0 = price };
   size = record { 0 = size };
   setter = setter;
+  security = 0;
 }
 
 -- a resting sell without a mark: kind, number, price, size
@@ -51,8 +52,13 @@ sells kind n (size ∷ sizes) = sell kind n 100000 size ∷ sells kind (suc n) s
 abbrev pub bid : ℕ → ℕ → Order
 bid n price = order Buy Displayed false n price 300
 
+-- an incoming order of security 0: side, limit, size
 abbrev pub incoming : Side → ℕ → ℕ → Incoming
-incoming side limit size = record { taker = record { side = side; limit = record { 0 = limit } }; size = record { 0 = size } }
+incoming side limit size = record { taker = record { side = side; limit = record { 0 = limit }; security = 0 }; size = record { 0 = size } }
+
+-- the order in security 1, and else the same
+abbrev pub inOther : Order → Order
+inOther o = record { side = o .side; kind = o .kind; number = o .number; price = o .price; size = o .size; setter = o .setter; security = 1 }
 
 -- displayed sells at three prices, the second the best
 abbrev pub threePrices : List Order

@@ -1,4 +1,5 @@
--- Worked values of take, computed by the checker: through two prices, through all five paragraphs, what rests, and on bytes.
+-- Worked values of take, computed by the checker: through two prices, through all five paragraphs, what rests, apart from the other
+-- security, and on bytes.
 use Prim.Native.Nat.{ℕ}
 use mathlib.Core.Path.{_≡_, refl}
 use mathlib.Core.Bool.{Bool, true, _&&_}
@@ -24,7 +25,7 @@ use Rattle.matching.specs.Paragraph.{partOf}
 use Rattle.matching.specs.Take.{allocationAt, allocationsAt, allocationsOver, allocations, executionsOf, lossesOf, Outcome, outcome}
 use Rattle.matching.specs.TakeCall.{TakeAnswer, outcomeOf, written, takeCall}
 use Rattle.matching.specs.Fairness.{reaching, counted, guaranteed, LotBounds}
-use Rattle.matching.specs.ExampleBooks.{sell, marked, reserve, sells, bid, incoming, threePrices, everyKind}
+use Rattle.matching.specs.ExampleBooks.{sell, marked, reserve, sells, bid, incoming, inOther, threePrices, everyKind}
 
 -- an outcome's numbers: of the executions, their orders, prices, shares and paragraphs; the shares left
 record Due : Type 0 where
@@ -98,9 +99,29 @@ resting =
     leaves 300 (sells Displayed 1 (300 ∷ [])) [] [] ∷
     leaves 999 threePrices (3 ∷ []) (100 ∷ []) ∷ []
 
--- take on bytes: side, limit, size, algorithm
+-- a marked sell of each security at one price; of the second ones that of security 1 is the better
+byTurns : List Order
+byTurns = marked 1 300 ∷ inOther (marked 2 300) ∷ sell Displayed 3 100100 200 ∷ inOther (sell Displayed 4 100000 900) ∷ []
+
+-- a buy of security 0 gets none of the other's, and the variation has its own setter
+apart : List Bool
+apart =
+    holds (outcome 100 PriceSetter (incoming Buy 100100 600) byTurns) (record {
+      orders = 1 ∷ 3 ∷ [];
+      prices = 100000 ∷ 100100 ∷ [];
+      shares = 300 ∷ 200 ∷ [];
+      paragraphs = 2 ∷ 2 ∷ [];
+      left = 100;
+    }) ∷
+    leaves 400 byTurns (2 ∷ 3 ∷ 4 ∷ []) (300 ∷ 100 ∷ 900 ∷ []) ∷ []
+
+-- take on bytes: security; side, limit, size, algorithm
+takeFor : ℕ → ℕ → ℕ → ℕ → ℕ → List ℕ → List ℕ → TakeAnswer
+takeFor security side limit size algorithm =
+    takeCall (record { side = side; limit = limit; size = size; algorithm = algorithm; security = security })
+
 take : ℕ → ℕ → ℕ → ℕ → List ℕ → List ℕ → TakeAnswer
-take side limit size algorithm = takeCall (record { side = side; limit = limit; size = size; algorithm = algorithm })
+take = takeFor 0
 
 -- the answer is this refusal with zeros, and the buffers are as they were
 refused : ℕ → TakeAnswer → List ℕ → List ℕ → Bool
@@ -132,12 +153,15 @@ calls =
     refused 1 (take 1 0 400 2 book short) book short ∷
     refused 1 (take 1 100100 1000000 2 book short) book short ∷
     refused 1 (take 1 100100 400 4 book short) book short ∷
+    refused 1 (takeFor 2 1 100100 400 2 book short) book short ∷
     refused 2 (take 1 100100 400 2 damaged short) damaged short ∷
     refused 8 (take 1 100100 400 2 book short) book short ∷
     -- a buffer for one execution, of any length, is enough for one, and none is needed for none
     accepted (take 1 100100 200 2 book short) 1 0 ∷
     accepted (take 1 99999 200 2 book []) 0 200 ∷
     accepted (take 1 100000 10 1 [] []) 0 10 ∷
+    -- security 1 has no order
+    accepted (takeFor 1 1 100100 400 2 book []) 0 400 ∷
     -- algorithms 1, 2 and 3: how many orders of 99 and 100 give 100 shares, and of a setter's 300 and 250, 250, 200 give 500
     accepted (take 1 100000 100 1 (bookOf 2 (sells Displayed 1 (99 ∷ 100 ∷ []))) room) 2 0 ∷
     accepted (take 1 100000 100 2 (bookOf 2 (sells Displayed 1 (99 ∷ 100 ∷ []))) room) 1 0 ∷
@@ -149,16 +173,20 @@ behind : Bool
 behind = sameNumbers (drop 16 (take 1 100100 200 2 book short .executions)) (replicate 15 7)
 
 called : all (λ b. b) calls ≡ true
-unfolding calls short room withMarked damaged book accepted refused take takeCall written outcomeOf outcome lossesOf executionsOf allocations allocationsOver allocationsAt allocationAt partOf priceLevels setterSharing besideSetter lotSharing round goesRound sound ordersOf bookOf encode decode numbersOf orderOf numbersSound newTells withInterest settled
+unfolding calls short room withMarked damaged book accepted refused take takeFor takeCall written outcomeOf outcome lossesOf executionsOf allocations allocationsOver allocationsAt allocationAt partOf priceLevels setterSharing besideSetter lotSharing round goesRound sound ordersOf bookOf encode decode numbersOf orderOf numbersSound newTells withInterest settled
 called = refl
 
 behind-kept : behind ≡ true
-unfolding behind short book take takeCall written outcomeOf outcome lossesOf executionsOf allocations allocationsOver allocationsAt allocationAt partOf priceLevels setterSharing besideSetter lotSharing round goesRound sound ordersOf bookOf encode decode numbersOf orderOf numbersSound newTells withInterest settled
+unfolding behind short book take takeFor takeCall written outcomeOf outcome lossesOf executionsOf allocations allocationsOver allocationsAt allocationAt partOf priceLevels setterSharing besideSetter lotSharing round goesRound sound ordersOf bookOf encode decode numbersOf orderOf numbersSound newTells withInterest settled
 behind-kept = refl
 
 prices-worked : all (λ b. b) prices ≡ true
 unfolding prices holds outcome lossesOf executionsOf allocations allocationsOver allocationsAt allocationAt partOf priceLevels setterSharing besideSetter lotSharing round goesRound withInterest settled
 prices-worked = refl
+
+apart-worked : all (λ b. b) apart ≡ true
+unfolding apart byTurns leaves holds outcome lossesOf executionsOf allocations allocationsOver allocationsAt allocationAt partOf priceLevels setterSharing besideSetter lotSharing round goesRound withInterest settled
+apart-worked = refl
 
 through-worked : all (λ b. b) through ≡ true
 unfolding through holds outcome lossesOf executionsOf allocations allocationsOver allocationsAt allocationAt partOf priceLevels lotSharing round goesRound withInterest settled

@@ -8,6 +8,7 @@ pub mod Fairness
 pub mod Naming
 pub mod Parts
 pub mod Reserve
+pub mod WayBy
 pub mod Before
 pub mod ExampleBooks
 pub mod Examples

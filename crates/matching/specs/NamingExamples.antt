@@ -35,7 +35,7 @@ told (suc n) x = decodeExecution x .number ∷ getD x 2 0 ∷ getD x 3 0 ∷ tol
 -- a buy of this size at 100100 under an algorithm tells so
 tells : ℕ → ℕ → List ℕ → List ℕ → Bool
 tells algorithm size s due =
-    let a = takeCall (record { side = 1; limit = 100100; size = size; algorithm = algorithm }) s (replicate 80 7) in
+    let a = takeCall (record { side = 1; limit = 100100; size = size; algorithm = algorithm; security = 0 }) s (replicate 80 7) in
     sameNumbers (told (a .taken .count) (a .executions)) due
 
 -- one order for each paragraph of pro rata
@@ -150,7 +150,7 @@ nowhere n = go (n .paragraph) (subst (λ (o : Order). T (inGroup (groupOf 100 Pr
     go Six i = i
 
 -- so an answer with such bytes is convicted
-answered-misnamed : NamedTake (record { side = 1; limit = 100000; size = 70; algorithm = 1 }) (bookOf 1 (fourth ∷ [])) (record {
+answered-misnamed : NamedTake (record { side = 1; limit = 100000; size = 70; algorithm = 1; security = 0 }) (bookOf 1 (fourth ∷ [])) (record {
   taken = record { refusal = 0; count = 1; left = 0 };
   book = bookOf 1 (minimum 4 30 30 ∷ []);
   executions = bytes 5;

@@ -34,7 +34,8 @@ abbrev pub lostOf : ℕ → Algorithm → Visibility → List Execution → Orde
 lostOf lot alg v es o =
     total (λ e. orZero (isOf o e && sameVisibility v (groupOf lot alg (paragraphNumbered (e .paragraph)) .visibility)) (executedShares e)) es
 
--- the reserve order with so many shares shown and so many hidden: its side, number, price, mark and refresh size are as they were
+-- the reserve order with so many shares shown and so many hidden: its side, number, price, mark, security and refresh size are as they
+-- were
 abbrev pub showing : ℕ → ℕ → Order → Order
 showing n h o = record {
   side = o .side;
@@ -43,6 +44,7 @@ showing n h o = record {
   price = o .price;
   size = record { 0 = n };
   setter = o .setter;
+  security = o .security;
 }
 
 -- it is among the orders, and no other of its number is

@@ -129,7 +129,7 @@ parts =
 
 -- On bytes: a buy of 500 from the first book, with so much room.
 take : ℕ → TakeAnswer
-take room = takeCall (record { side = 1; limit = 100000; size = 500; algorithm = 2 }) (bookOf 2 twoOrders) (replicate room 7)
+take room = takeCall (record { side = 1; limit = 100000; size = 500; algorithm = 2; security = 0 }) (bookOf 2 twoOrders) (replicate room 7)
 
 answers : TakeAnswer → ℕ → ℕ → List ℕ → Bool
 answers a refusal count rest =

@@ -8,7 +8,7 @@ use Rattle.units.specs.Lists.{flatMap, inRange, orZero}
 use Rattle.units.specs.Lots.{roundLot}
 use Rattle.orders.specs.declared.order.Order.{Order}
 use Rattle.record.specs.declared.execution.Execution.{Execution}
-use Rattle.orders.specs.Order.{sideOf, priceInRange, sharesInRange}
+use Rattle.orders.specs.Order.{sideOf, priceInRange, sharesInRange, securityInRange}
 use Rattle.record.specs.Execution.{executionBytes, encodeExecution}
 use Rattle.book.specs.Sound.{sound, ordersOf, bookOf, capacityOf}
 use Rattle.book.specs.Refusal.{Refusals, refuse, refusalOf, isAccepted}
@@ -20,12 +20,13 @@ use Rattle.matching.specs.Take.{Outcome, outcome}
 
 -- the numbers that take is given are in their ranges
 abbrev pub requestInRange : TakeRequest → Bool
-requestInRange q = inRange 1 2 (q .side) && priceInRange (q .limit) && sharesInRange (q .size) && inRange 1 3 (q .algorithm)
+requestInRange q =
+    inRange 1 2 (q .side) && priceInRange (q .limit) && sharesInRange (q .size) && inRange 1 3 (q .algorithm) && securityInRange (q .security)
 
 -- the incoming order that they say
 abbrev pub incomingOf : TakeRequest → Incoming
 incomingOf q = record {
-  taker = record { side = sideOf (q .side); limit = record { 0 = q .limit } };
+  taker = record { side = sideOf (q .side); limit = record { 0 = q .limit }; security = q .security };
   size = record { 0 = q .size };
 }
 

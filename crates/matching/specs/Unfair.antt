@@ -46,7 +46,7 @@ unfolding firstParagraph lossesOf executionsOf allocationsAt allocationAt partOf
 first-paragraph-unfair f = f .unmet (omega arith) _ (List·Memᴰ·head refl) tt .0
 
 -- on bytes: the same buy of 400 is accepted, executes nothing and leaves everything as it was
-idle-unfair : FairTake (record { side = 1; limit = 100100; size = 400; algorithm = 2 }) (bookOf 3 threePrices) (record {
+idle-unfair : FairTake (record { side = 1; limit = 100100; size = 400; algorithm = 2; security = 0 }) (bookOf 3 threePrices) (record {
   taken = record { refusal = 0; count = 0; left = 400 };
   book = bookOf 3 threePrices;
   executions = [];

@@ -109,6 +109,7 @@ pub struct TakeRequest {
     pub limit: u32,
     pub size: u32,
     pub algorithm: u32,
+    pub security: u32,
 }
 
 // What take answers: its refusal, how many executions it wrote, and the shares left.

@@ -24,6 +24,7 @@ fn number(n: usize, words: &[u8]) {
     text(words);
 }
 
+// A sell, of one security or the other by its number.
 fn sell(number: u32) -> Order {
     Order {
         side: Side::Sell,
@@ -32,6 +33,7 @@ fn sell(number: u32) -> Order {
         price: Price(100_000),
         size: Shares(SIZE),
         setter: false,
+        security: number % 2,
     }
 }
 
@@ -66,15 +68,15 @@ fn settle(words: &[u8], losses: &[u32; 256]) {
     let mut space = [0u8; 10240];
     let book: &mut [u8] = &mut space;
     fill(book);
-    let checked = lookup::check(book);
-    if checked.refusal != 0 {
+    let before = lookup::occupancy(book);
+    if before.refusal != 0 {
         return;
     }
-    let moves = settlement::settling::settle(book, checked.orders as usize, losses, losses);
-    let left = lookup::check(book);
+    let moves = settlement::settling::settle(book, before.records, losses, losses);
+    let left = lookup::occupancy(book);
     text(words);
     number(moves, b" moves, ");
-    number(left.orders as usize, b" orders, refusal ");
+    number(left.records, b" orders, refusal ");
     number(left.refusal as usize, b"\n");
 }
 

@@ -12,10 +12,10 @@ use Rattle.orders.specs.declared.order.Kind.the-variants.{Displayed, Non
 use Rattle.orders.specs.declared.order.Order.{Order}
 use Rattle.orders.specs.declared.order.Taker.{Taker}
 use Rattle.orders.specs.Order.{sideNumber, sideOf, kindNumber, kindOf, minimumOf, hiddenOf, refreshOf, isDisplayed, isMinimumQuantity, isReserve, priceOf, sizeOf}
-use Rattle.orders.specs.Order.{numberInRange, priceInRange, sharesInRange, minimumInRange, reserveInRange}
+use Rattle.orders.specs.Order.{numberInRange, priceInRange, sharesInRange, securityInRange, minimumInRange, reserveInRange}
 use Rattle.orders.specs.Order.{Interest, shown, hidden, interest, noInterest, sharesOf, onlyOf, allShares, together, less, interestBy, refreshed}
 use Rattle.orders.specs.Order.{withInterest, settled, isResting}
-use Rattle.orders.specs.Trading.{isOpposite, withinLimit, isBetter, isPricedBetter, isOppositeOf, isTradable, asTaker}
+use Rattle.orders.specs.Trading.{isOpposite, withinLimit, isBetter, isPricedBetter, ofSecurity, isOppositeOf, isTradable, asTaker}
 
 -- a minimum quantity order whose minimum is 400
 leastOf400 : Kind
@@ -74,6 +74,10 @@ ranges =
     sharesInRange 999999 ∷
     not (sharesInRange 0) ∷
     not (sharesInRange 1000000) ∷
+    -- two securities
+    securityInRange 0 ∷
+    securityInRange 1 ∷
+    not (securityInRange 2) ∷
     -- a minimum is 1 to the size for kind 3 alone
     minimumInRange 3 500 1 ∷
     minimumInRange 3 500 500 ∷
@@ -119,14 +123,14 @@ interests =
     has (refreshed 100 (interest 1 250)) 1 250 ∷
     has (refreshed 100 (interest 0 0)) 0 0 ∷ []
 
--- order 9, a marked sell of 500 at 10.00 dollars
+-- order 9, a marked sell of 500 at 10.00 dollars, of security 1
 order : Kind → Order
-order kind = record { side = Sell; kind = kind; number = 9; price = record { 0 = 100000 }; size = record { 0 = 500 }; setter = true }
+order kind = record { side = Sell; kind = kind; number = 9; price = record { 0 = 100000 }; size = record { 0 = 500 }; setter = true; security = 1 }
 
 -- the order is still order 9, of this kind, size and minimum
 left : Order → ℕ → ℕ → ℕ → Bool
 left o kind size minimum =
-    eqb (sideNumber (o .side)) 2 && eqb (o .number) 9 && eqb (priceOf o) 100000 && o .setter
+    eqb (sideNumber (o .side)) 2 && eqb (o .number) 9 && eqb (priceOf o) 100000 && o .setter && eqb (o .security) 1
     && eqb (kindNumber (o .kind)) kind && eqb (sizeOf o) size && eqb (minimumOf (o .kind)) minimum
 
 -- it is so as a reserve order, marked as before, that shows and hides so many shares and keeps its refresh size
@@ -153,10 +157,10 @@ losses =
     isResting (settled (interest 499 250) (order (hides 250))) ∷
     not (isResting (settled (interest 500 250) (order (hides 250)))) ∷
     -- shares that it hides keep it, though it shows none
-    isResting (record { side = Sell; kind = hides 1; number = 9; price = record { 0 = 100000 }; size = record { 0 = 0 }; setter = false }) ∷ []
+    isResting (record { side = Sell; kind = hides 1; number = 9; price = record { 0 = 100000 }; size = record { 0 = 0 }; setter = false; security = 0 }) ∷ []
 
-taker : Side → ℕ → Taker
-taker side limit = record { side = side; limit = record { 0 = limit } }
+taker : ℕ → Side → ℕ → Taker
+taker security side limit = record { side = side; limit = record { 0 = limit }; security = security }
 
 trading : List Bool
 trading =
@@ -185,15 +189,22 @@ trading =
     isPricedBetter Sell 1 2 ∷
     not (isPricedBetter Sell 2 1) ∷
     not (isPricedBetter Sell 1 1) ∷
-    -- with a resting sell at 100000
-    isOppositeOf (taker Buy 1) (order Displayed) ∷
-    not (isOppositeOf (taker Sell 1) (order Displayed)) ∷
-    isTradable (taker Buy 100000) (order Displayed) ∷
-    not (isTradable (taker Buy 99999) (order Displayed)) ∷
-    not (isTradable (taker Sell 100000) (order Displayed)) ∷
-    -- an order takes at its own price, on its own side
+    -- an order is of its own security
+    ofSecurity 1 (order Displayed) ∷
+    not (ofSecurity 0 (order Displayed)) ∷
+    -- with a resting sell at 100000, of security 1
+    isOppositeOf (taker 1 Buy 1) (order Displayed) ∷
+    not (isOppositeOf (taker 1 Sell 1) (order Displayed)) ∷
+    isTradable (taker 1 Buy 100000) (order Displayed) ∷
+    not (isTradable (taker 1 Buy 99999) (order Displayed)) ∷
+    not (isTradable (taker 1 Sell 100000) (order Displayed)) ∷
+    -- a taker of the other security has nothing to do with it
+    not (isOppositeOf (taker 0 Buy 1) (order Displayed)) ∷
+    not (isTradable (taker 0 Buy 100000) (order Displayed)) ∷
+    -- an order takes at its own price, on its own side, in its own security
     eqb (sideNumber (asTaker (order Displayed) .side)) 2 ∷
-    eqb (asTaker (order Displayed) .limit .0) 100000 ∷ []
+    eqb (asTaker (order Displayed) .limit .0) 100000 ∷
+    eqb (asTaker (order Displayed) .security) 1 ∷ []
 
 numbers-worked : all (λ b. b) numbers ≡ true
 unfolding numbers leastOf400 hides

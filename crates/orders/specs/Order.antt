@@ -92,6 +92,10 @@ priceInRange = inRange 1 2000000000
 abbrev pub sharesInRange : ℕ → Bool
 sharesInRange = inRange 1 999999
 
+-- a security is 0 or 1
+abbrev pub securityInRange : ℕ → Bool
+securityInRange = inRange 0 1
+
 -- a minimum is 1 to the size for kind 3, and zero for every other kind
 abbrev pub minimumInRange : ℕ → ℕ → ℕ → Bool
 minimumInRange kind size minimum = cond (eqb kind 3) (inRange 1 size minimum) (eqb minimum 0)
@@ -177,6 +181,7 @@ withInterest i o = record {
   price = o .price;
   size = record { 0 = sizeFrom (o .kind) i };
   setter = o .setter;
+  security = o .security;
 }
 
 -- the order after it lost shares

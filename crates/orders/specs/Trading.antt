@@ -1,7 +1,7 @@
 -- Which orders may trade, and which of two prices is better.
 use Prim.Native.Nat.{ℕ}
 use mathlib.Core.Bool.{Bool, true, false, _&&_}
-use lib.Dec.{leb, ltb}
+use lib.Dec.{leb, ltb, eqb}
 use Rattle.orders.specs.declared.order.Side.{Side}
 use Rattle.orders.specs.declared.order.Side.the-variants.{Buy, Sell}
 use Rattle.orders.specs.declared.order.Order.{Order}
@@ -30,9 +30,13 @@ abbrev pub isPricedBetter : Side → ℕ → ℕ → Bool
 isPricedBetter Buy p q = ltb q p
 isPricedBetter Sell p q = ltb p q
 
--- the resting order is on the other side
+-- the order is of this security
+abbrev pub ofSecurity : ℕ → Order → Bool
+ofSecurity k o = eqb (o .security) k
+
+-- the resting order is of the same security, on the other side
 abbrev pub isOppositeOf : Taker → Order → Bool
-isOppositeOf t o = isOpposite (t .side) (o .side)
+isOppositeOf t o = ofSecurity (t .security) o && isOpposite (t .side) (o .side)
 
 -- a resting order that the taker may trade with
 abbrev pub isTradable : Taker → Order → Bool
@@ -40,4 +44,4 @@ isTradable t o = isOppositeOf t o && withinLimit (t .side) (t .limit .0) (priceO
 
 -- an order as a taker at its own price
 abbrev pub asTaker : Order → Taker
-asTaker o = record { side = o .side; limit = o .price }
+asTaker o = record { side = o .side; limit = o .price; security = o .security }

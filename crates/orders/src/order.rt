@@ -121,6 +121,7 @@ pub struct Order {
     pub price: Price,
     pub size: Shares,
     pub setter: bool,
+    pub security: u32,
 }
 
 // Displayed and non-displayed shares.
@@ -191,7 +192,7 @@ impl Order {
 
     // The order of another kind and size, and else the same.
     fn with(self, kind: Kind, size: Shares) -> Order
-        ensures { λ r. ⌜ r ≡ record { side = self .side; kind = kind; number = self .number; price = self .price; size = size; setter = self .setter } ⌝ }
+        ensures { λ r. ⌜ r ≡ record { side = self .side; kind = kind; number = self .number; price = self .price; size = size; setter = self .setter; security = self .security } ⌝ }
     {
         let side = self.side;
         let price = self.price;
@@ -202,6 +203,7 @@ impl Order {
             price,
             size,
             setter: self.setter,
+            security: self.security,
         }
     }
 
@@ -233,8 +235,9 @@ impl Order {
     }
 }
 
-// An order seen as a taker of liquidity: its side and the worst price that it trades at.
+// An order seen as a taker of liquidity: its side, the worst price that it trades at, and its security.
 pub struct Taker {
     pub side: Side,
     pub limit: Price,
+    pub security: u32,
 }

@@ -1,6 +1,6 @@
 // The ranges of an order's numbers.
 ghost use mathlib.Core.Path.{_≡_};
-ghost use Rattle.orders.specs.Order.{numberInRange, priceInRange, sharesInRange, minimumInRange, reserveInRange};
+ghost use Rattle.orders.specs.Order.{numberInRange, priceInRange, sharesInRange, securityInRange, minimumInRange, reserveInRange};
 
 // Whether an order can have this number.
 pub fn number_in_range(number: u32) -> bool
@@ -21,6 +21,13 @@ pub fn shares_in_range(shares: u32) -> bool
     ensures { λ r. ⌜ r ≡ sharesInRange shares ⌝ }
 {
     units::in_range(1, 999_999, shares)
+}
+
+// Whether there is a security of this number.
+pub fn security_in_range(security: u32) -> bool
+    ensures { λ r. ⌜ r ≡ securityInRange security ⌝ }
+{
+    units::in_range(0, 1, security)
 }
 
 // Whether a minimum is in its range: 1 to the size for kind 3, zero for every other kind.

@@ -1,28 +1,22 @@
 -- Keys that are kept or not: each is written behind those kept so far, and stays there if it passes a test.
 use Prim.Native.Nat.{ℕ, suc, _+_, _≤_, _<_}
 use mathlib.Core.Path.{_≡_, _∙_}
-use mathlib.Core.Bool.{Bool, true, false}
+use mathlib.Core.Bool.{Bool}
 use mathlib.Core.List.{List, [], _++_}
 use native.Mathlib.Omega.{arith}
 use native.Mathlib.Numerals.{add-one}
-use native.Mathlib.Nat.{add-zero}
 use lib.ListN.{length, getD, take, drop, set, length-set, drop-of-length-le}
-use lib.Seq.{take-suc-set, take-set-le, drop-set-lt, drop-cons, append-snoc}
+use lib.Seq.{drop-set-lt, drop-cons}
 use Rattle.units.specs.Lists.{consIf, filter, orZero}
 use Rattle.units.proofs.Tests.{pick-least}
+use Rattle.units.proofs.Columns.{kept-more}
 use Rattle.matching.specs.declared.Algorithm.{Algorithm}
 use Rattle.matching.specs.declared.incoming.Incoming.{Incoming}
 use Rattle.book.specs.Sound.{ordersOf, orderAt}
 use Rattle.book.proofs.Access.{order-here}
 use Rattle.parts.specs.Parts.{keysOf, keysFrom}
 
--- the kept keys, with one more if it passes, and what is to come
-pub kept-more : (b : Bool) (keys : List ℕ) (count x : ℕ) (rest : List ℕ) → count < length keys
-    → take (count + orZero b 1) (set keys count x) ++ rest ≡ take count keys ++ consIf b x rest
-kept-more true keys count x rest h = rw (add-one, take-suc-set keys count x h) (append-snoc (take count keys) x rest)
-kept-more false keys count x rest h = rw (add-zero count, take-set-le count keys count x (omega arith))
-
--- with two more if they pass
+-- the kept keys, with two more if they pass, and what is to come
 pub kept-two : (b : Bool) (keys : List ℕ) (count x y : ℕ) (rest : List ℕ) → count + 1 < length keys
     → take (count + orZero b 1 + orZero b 1) (set (set keys count x) (count + orZero b 1) y) ++ rest ≡ take count keys ++ consIf b x (consIf b y rest)
 kept-two b keys count x y rest h =

@@ -81,7 +81,8 @@ module _ (numbers : Numbers) (o : Order) (e : numbers ≡ namedNumbers (numbersO
 
   -- whether the incoming order may meet it
   pub meets-read : (i : Incoming) → i .taker .limit .0 ≤ 4294967295 → priceOf o ≤ 4294967295
-      → ((eqb (numbers .side) (3 - sideNumber (i .taker .side))
+      → (((eqb (numbers .security) (i .taker .security)
+      && eqb (numbers .side) (3 - sideNumber (i .taker .side)))
       && leb (rankOn (i .taker .side) (numbers .price)) (rankOn (i .taker .side) (i .taker .limit .0)))
       && leb (numbers .minimum) (i .size .0))
       ≡ mayMeet i o

@@ -56,7 +56,7 @@ keys-worked = refl
 
 -- orders 10, 11, 12 .. at a price each
 at : ℕ → Order
-at place = record { side = Sell; kind = Displayed; number = 10 + place; price = record { 0 = 100000 + place }; size = record { 0 = 500 }; setter = false }
+at place = record { side = Sell; kind = Displayed; number = 10 + place; price = record { 0 = 100000 + place }; size = record { 0 = 500 }; setter = false; security = 0 }
 
 -- of an execution the number, price, shares and paragraph
 told : Execution → List ℕ
@@ -83,11 +83,17 @@ order side kind price size = record {
   price = record { 0 = price };
   size = record { 0 = size };
   setter = false;
+  security = 1;
 }
 
--- 300 shares come in
+-- 300 shares come in of a security
+incomingFor : ℕ → Side → ℕ → Incoming
+incomingFor security side limit =
+    record { taker = record { side = side; limit = record { 0 = limit }; security = security }; size = record { 0 = 300 } }
+
+-- and of that of the order
 incoming : Side → ℕ → Incoming
-incoming side limit = record { taker = record { side = side; limit = record { 0 = limit } }; size = record { 0 = 300 } }
+incoming = incomingFor 1
 
 paragraphs : List Bool
 paragraphs =
@@ -164,10 +170,11 @@ offered =
     mayMeet (incoming Sell 100100) (order Buy (least 300) 100200 400) ∷
     not (mayMeet (incoming Sell 100100) (order Sell Displayed 100100 50)) ∷
     not (mayMeet (incoming Sell 100100) (order Buy Displayed 100099 50)) ∷
+    not (mayMeet (incomingFor 0 Sell 100100) (order Buy Displayed 100100 50)) ∷
     not (mayMeet (incoming Sell 100100) (order Buy (least 301) 100200 400)) ∷ []
 
 offered-worked : allOf (λ b. b) offered ≡ true
-unfolding offered order least hides incoming
+unfolding offered order least hides incoming incomingFor
 offered-worked = refl
 
 -- a displayed sell, a non-displayed one below a lot at the limit, a buy, a sell above the limit, a minimum that is just met, one that isn't,
@@ -193,7 +200,7 @@ met =
     sameNumbers (keysFrom 100 PriceTime (incoming Buy 100100) 0 []) [] ∷ []
 
 met-worked : allOf (λ b. b) met ≡ true
-unfolding met orders order least hides incoming keysOf keysFrom
+unfolding met orders order least hides incoming incomingFor keysOf keysFrom
 met-worked = refl
 
 -- both parts of an order have the place of its record, one more than those of the order before
@@ -203,7 +210,7 @@ placed =
     (3 ∷ 3 ∷ 4 ∷ 4 ∷ []) ∷ []
 
 placed-worked : allOf (λ b. b) placed ≡ true
-unfolding placed order hides incoming keysOf keysFrom
+unfolding placed order hides incoming incomingFor keysOf keysFrom
 placed-worked = refl
 
 free : List Bool

@@ -81,7 +81,8 @@ fn may_meet(numbers: Numbers, incoming: Incoming) -> bool
     let limit = taker.limit;
     let size = incoming.size;
     let other = 3 - (side.number() as u32);
-    (numbers.side == other)
+    (numbers.security == taker.security)
+        & (numbers.side == other)
         & (rank_on(side, numbers.price) <= rank_on(side, limit.0))
         & (numbers.minimum <= size.0)
 }

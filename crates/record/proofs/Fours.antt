@@ -5,37 +5,36 @@ use mathlib.Core.Bool.{Bool, true, _&&_, _||_}
 use mathlib.Core.Bool as bool
 use mathlib.Core.List.{List, [], _∷_}
 use native.Mathlib.Omega.{arith}
-use borrow.Author.Tests.{ne-eqb}
-use lib.Dec.{eqb}
+use borrow.Author.Tests.{ne-eqb, lt-leb}
+use lib.Dec.{leb, eqb}
 use lib.ListN.{getD, take, drop}
 use Rattle.units.specs.Lists.{inRange, isZero}
 use Rattle.units.proofs.Tests.{and-true, true-and, and-false, same-test}
 use Rattle.units.proofs.Facts.{chain, chain-true, true-chain}
-use Rattle.orders.specs.Order.{numberInRange, priceInRange, sharesInRange, minimumInRange, reserveInRange}
+use Rattle.orders.specs.Order.{numberInRange, priceInRange, sharesInRange, securityInRange, minimumInRange, reserveInRange}
 use Rattle.record.specs.Codec.{fromBytes, hasMark}
 use Rattle.record.specs.Record.{newForm, newTells, numbersSound, recordSound}
 use Rattle.record.proofs.Reading.{from-more, from-one, zero-parts, decode-at}
 
--- a mark in the lowest byte of a number whose others are zero is that number
-mark-alone : (k : Bool) (b u : ℕ) → b < 256
-    → (isZero (b + 256 * u) || (eqb (b + 256 * u) 1 && k)) ≡ ((isZero b || (eqb b 1 && k)) && isZero u)
-mark-alone k b zero h =
+-- a security in the lowest byte of a number whose others are zero is that number
+security-alone : (b u : ℕ) → b < 256 → securityInRange (b + 256 * u) ≡ (securityInRange b && isZero u)
+security-alone b zero h =
     let e : b + 256 * 0 ≡ b = omega arith in
-    rw e (sym (bool.and-true (isZero b || (eqb b 1 && k))))
-mark-alone k b (suc u) h =
-    rw (ne-eqb (b + 256 * suc u) 0 (λ e. omega arith), ne-eqb (b + 256 * suc u) 1 (λ e. omega arith), ne-eqb (suc u) 0 (λ e. omega arith))
-    (sym (and-false (isZero b || (eqb b 1 && k)) refl))
+    rw e (sym (bool.and-true (securityInRange b)))
+security-alone b (suc u) h =
+    rw (lt-leb (b + 256 * suc u) 1 (omega arith), ne-eqb (suc u) 0 (λ e. omega arith), bool.and-false (leb 0 (b + 256 * suc u)))
+    (sym (and-false (securityInRange b) refl))
 
 -- the tests in the order of the bytes, and in that of the definitions
-module _ (mark side kind number price size minimum setter y z a b reserve : Bool) where
+module _ (mark side kind number price size minimum setter security z a b reserve : Bool) where
   abbrev bytewise : List Bool
-  bytewise = kind ∷ number ∷ price ∷ size ∷ minimum ∷ (setter && (y && z)) ∷ a ∷ b ∷ reserve ∷ []
+  bytewise = kind ∷ number ∷ price ∷ size ∷ minimum ∷ setter ∷ (security && z) ∷ a ∷ b ∷ reserve ∷ []
 
   abbrev common : List Bool
   common = number ∷ price ∷ size ∷ minimum ∷ setter ∷ (a && b) ∷ []
 
   abbrev told : List Bool
-  told = y ∷ z ∷ reserve ∷ []
+  told = security ∷ z ∷ reserve ∷ []
 
   regroup : chain (mark && side) bytewise ≡ (mark && (chain side common && chain kind told))
   regroup = same-test _ _ there back
@@ -46,12 +45,11 @@ module _ (mark side kind number price size minimum setter y z a b reserve : Bool
           let m = and-true mark side (t .0) in
           let n = t .1 .1 in
           let l = n .1 .1 .1 .1 in
-          let w = and-true setter (y && z) (l .0) in
-          let v = and-true y z (w .1) in
+          let v = and-true security z (l .1 .0) in
           true-and (m .0)
           (true-and
-          (true-chain side common (m .1) (n .0) (n .1 .0) (n .1 .1 .0) (n .1 .1 .1 .0) (w .0) (true-and (l .1 .0) (l .1 .1 .0)))
-          (true-chain kind told (t .1 .0) (v .0) (v .1) (l .1 .1 .1 .0)))
+          (true-chain side common (m .1) (n .0) (n .1 .0) (n .1 .1 .0) (n .1 .1 .1 .0) (l .0) (true-and (l .1 .1 .0) (l .1 .1 .1 .0)))
+          (true-chain kind told (t .1 .0) (v .0) (v .1) (l .1 .1 .1 .1 .0)))
 
       back : (mark && (chain side common && chain kind told)) ≡ true → chain (mark && side) bytewise ≡ true
       back e =
@@ -63,7 +61,7 @@ module _ (mark side kind number price size minimum setter y z a b reserve : Bool
           let l = n .1 .1 .1 .1 in
           let x = and-true a b (l .1 .0) in
           true-chain (mark && side) bytewise (true-and (m .0) (c .0)) (k .0) (n .0) (n .1 .0) (n .1 .1 .0) (n .1 .1 .1 .0)
-          (true-and (l .0) (true-and (k .1 .0) (k .1 .1 .0))) (x .0) (x .1) (k .1 .1 .1 .0)
+          (l .0) (true-and (k .1 .0) (k .1 .1 .0)) (x .0) (x .1) (k .1 .1 .1 .0)
 
 module _ (s : List ℕ) (bytes : (k : ℕ) → getD s k 0 < 256) where
   abbrev four : ℕ → ℕ
@@ -78,11 +76,14 @@ module _ (s : List ℕ) (bytes : (k : ℕ) → getD s k 0 < 256) where
   side-byte : four 0 / 65536 % 256 ≡ getD s 2 0
   side-byte = omega (arith, first-four, bytes 0, bytes 1, bytes 2, bytes 3)
 
-  -- the setter mark and the three zeros behind it are one number
-  setter-bytes : (k : Bool) → (isZero (four 20) || (eqb (four 20) 1 && k))
-      ≡ ((isZero (getD s 20 0) || (eqb (getD s 20 0) 1 && k)) && (isZero (getD s 21 0) && isZero (fromBytes (take 2 (drop 22 s)))))
-  setter-bytes k =
-      rw (from-more 3 20 21 s refl, mark-alone k (getD s 20 0) (fromBytes (take 3 (drop 21 s))) (bytes 20), zero-parts 1 2 21 s, from-one 21 s)
+  setter-byte : four 20 % 256 ≡ getD s 20 0
+  setter-byte = omega (arith, from-more 3 20 21 s refl, bytes 20)
+
+  -- the security and the two zeros behind it are one number
+  security-bytes : securityInRange (four 20 / 256) ≡ (securityInRange (getD s 21 0) && isZero (fromBytes (take 2 (drop 22 s))))
+  security-bytes =
+      let e : four 20 / 256 ≡ fromBytes (take 3 (drop 21 s)) = omega (arith, from-more 3 20 21 s refl, bytes 20) in
+      rw (e, from-more 2 21 22 s refl) (security-alone (getD s 21 0) (fromBytes (take 2 (drop 22 s))) (bytes 21))
 
   abbrev kind : ℕ
   kind = four 0 / 16777216
@@ -95,7 +96,8 @@ module _ (s : List ℕ) (bytes : (k : ℕ) → getD s k 0 < 256) where
       priceInRange (four 8) ∷
       sharesInRange (four 12) ∷
       minimumInRange kind (four 12) (four 16) ∷
-      (isZero (four 20) || (eqb (four 20) 1 && (eqb kind 1 || eqb kind 4))) ∷
+      (isZero (four 20 % 256) || (eqb (four 20 % 256) 1 && (eqb kind 1 || eqb kind 4))) ∷
+      securityInRange (four 20 / 256) ∷
       isZero (four 24) ∷
       isZero (four 28) ∷
       reserveInRange kind (four 32) (four 36) ∷ []
@@ -107,7 +109,8 @@ module _ (s : List ℕ) (bytes : (k : ℕ) → getD s k 0 < 256) where
       rw (
         side-byte,
         kind-byte,
-        setter-bytes (eqb (getD s 3 0) 1 || eqb (getD s 3 0) 4),
+        setter-byte,
+        security-bytes,
         decode-at (newForm .layout) s,
         from-one 2 s,
         from-one 3 s,
@@ -118,5 +121,5 @@ module _ (s : List ℕ) (bytes : (k : ℕ) → getD s k 0 < 256) where
       (regroup (hasMark (newForm .layout) s) (inRange 1 2 (getD s 2 0)) (inRange 1 4 (getD s 3 0)) (numberInRange (four 4)) (priceInRange (four 8))
       (sharesInRange (four 12)) (minimumInRange (getD s 3 0) (four 12) (four 16))
       (isZero (getD s 20 0) || (eqb (getD s 20 0) 1 && (eqb (getD s 3 0) 1 || eqb (getD s 3 0) 4)))
-      (isZero (getD s 21 0)) (isZero (fromBytes (take 2 (drop 22 s)))) (isZero (four 24)) (isZero (four 28))
+      (securityInRange (getD s 21 0)) (isZero (fromBytes (take 2 (drop 22 s)))) (isZero (four 24)) (isZero (four 28))
       (reserveInRange (getD s 3 0) (four 32) (four 36)))

@@ -43,6 +43,7 @@ pub record OrderFacts (o : Order) : Type 0 where
   pub hidden-most : hiddenOf (o .kind) ≤ 999999
   pub refresh-least : isReserve (o .kind) ≡ true → 1 ≤ refreshOf (o .kind)
   pub refresh-most : refreshOf (o .kind) ≤ 999999
+  pub security-most : o .security ≤ 1
 
 minimum-facts : (k : Kind) (size : ℕ) → minimumInRange (kindNumber k) size (minimumOf k) ≡ true
     → (isMinimumQuantity k ≡ true → 1 ≤ minimumOf k) × (minimumOf k ≤ size)
@@ -130,6 +131,7 @@ module _ (o : Order) where
         hidden-most = r .most;
         refresh-least = r .refresh;
         refresh-most = r .refresh-most;
+        security-most = range-true 0 1 (o .security) (a .1 .1 .0) .1;
       }
 
   -- an order with each of the facts is sound
@@ -147,7 +149,7 @@ module _ (o : Order) where
       refl)
       (all-told (numbersOf o)
       (kind-range (o .kind))
-      refl
+      (true-range 0 1 (o .security) (omega arith) (h .security-most))
       refl
       (facts-reserve (o .kind) record { most = h .hidden-most; refresh = h .refresh-least; refresh-most = h .refresh-most }))
 

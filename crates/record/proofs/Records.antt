@@ -5,7 +5,7 @@ use mathlib.Core.Bool.{true, false, false≢true}
 use mathlib.Core.List.{List, [], _∷_, _++_}
 use native.Mathlib.Omega.{arith}
 use lib.ListN.{length, getD, take, List·getD-eq-default}
-use borrow.Author.Tests.{ne-eqb}
+use borrow.Author.Tests.{ne-eqb, eqb-true}
 use Rattle.units.specs.Lists.{inRange, isZero}
 use Rattle.units.proofs.Members.{Every}
 use Rattle.units.proofs.Tests.{and-true, true-and}
@@ -77,7 +77,8 @@ old-new ns l e =
     let r = range-true 1 3 (getD ns 1 0) (t .0) in
     let h : getD ns 10 0 ≡ 0 = List·getD-eq-default ns 0 (omega arith) in
     let f : getD ns 11 0 ≡ 0 = List·getD-eq-default ns 0 (omega arith) in
-    all-told ns (true-range 1 4 (getD ns 1 0) (r .0) (omega arith)) (t .1 .0) (t .1 .1 .0) (rw (h, f) (no-reserve (getD ns 1 0) (t .0)))
+    let k = eqb-true (getD ns 7 0) 0 (t .1 .0) in
+    all-told ns (true-range 1 4 (getD ns 1 0) (r .0) (omega arith)) (true-range 0 1 (getD ns 7 0) (omega arith) (omega arith)) (t .1 .1 .0) (rw (h, f) (no-reserve (getD ns 1 0) (t .0)))
 
 old-asks : (ns : List ℕ) → oldTells (cells ns 0 12) ≡ oldTells ns
 unfolding oldTells

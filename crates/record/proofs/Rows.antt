@@ -18,7 +18,7 @@ use Rattle.orders.specs.declared.order.Kind.{Kind}
 use Rattle.orders.specs.declared.order.Kind.the-variants.{Displayed, NonDisplayed, MinimumQuantity, Reserve}
 use Rattle.orders.specs.declared.order.Order.{Order}
 use Rattle.orders.specs.Order.{sideNumber, sideOf, kindNumber, kindOf, minimumOf, hiddenOf, refreshOf}
-use Rattle.orders.specs.Order.{numberInRange, priceInRange, sharesInRange, minimumInRange, reserveInRange}
+use Rattle.orders.specs.Order.{numberInRange, priceInRange, sharesInRange, securityInRange, minimumInRange, reserveInRange}
 use Rattle.record.specs.Record.{newForm, newTells, numbersOf, orderOf, numbersSound, rowSound}
 
 -- a side and a kind are read back from their numbers
@@ -78,7 +78,7 @@ tests ns =
 
 -- and of those that the new form tells, behind that of the kind
 abbrev pub newTests : List ℕ → List Bool
-newTests ns = isZero (getD ns 7 0) ∷ isZero (getD ns 8 0) ∷ reserveInRange (getD ns 1 0) (getD ns 10 0) (getD ns 11 0) ∷ []
+newTests ns = securityInRange (getD ns 7 0) ∷ isZero (getD ns 8 0) ∷ reserveInRange (getD ns 1 0) (getD ns 10 0) (getD ns 11 0) ∷ []
 
 -- a sound row of numbers passes each test
 pub passed : (ns : List ℕ) → rowSound newForm ns ≡ true
@@ -152,7 +152,6 @@ numbers-order ns e =
       k .hidden,
       k .refresh,
       number-setter (getD ns 6 0) (eqb (getD ns 1 0) 1 || eqb (getD ns 1 0) 4) (m .1 .0),
-      eqb-true (getD ns 7 0) 0 (z .1 .0),
       eqb-true (getD ns 8 0) 0 (z .1 .1 .0),
       eqb-true (getD ns 9 0) 0 (m .1 .1 .0),
     )

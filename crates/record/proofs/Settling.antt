@@ -35,6 +35,11 @@ module _ (loss : Interest) (o : Order) where
   unfolding settled withInterest
   settled-setter = refl
 
+  -- its security
+  pub settled-security : settled loss o .security ≡ o .security
+  unfolding settled withInterest
+  settled-security = refl
+
   -- whether it is displayed
   pub settled-displayed : isDisplayed (settled loss o .kind) ≡ isDisplayed (o .kind)
   unfolding settled withInterest
@@ -157,6 +162,7 @@ module _ (loss : Interest) (o : Order) where
         hidden-most = omega (arith, settled-hidden, h .hidden-most);
         refresh-least = λ q. rw settled-refresh (h .refresh-least (sym settled-reserve ∙ q));
         refresh-most = rw settled-refresh (h .refresh-most);
+        security-most = rw settled-security (h .security-most);
       }
 
 -- a sound order has shares

@@ -34,12 +34,12 @@ ofReserve h r = orderOf (2 ∷ 4 ∷ 1 ∷ 100000 ∷ 100 ∷ 0 ∷ 1 ∷ 0 ∷ 
 abbrev reserveSound : ℕ → ℕ → Bool
 reserveSound h r = recordSound newForm (encodeOrder newForm (ofReserve h r))
 
--- an order's side, kind, number, price, size, minimum, mark, hidden shares and refresh size
+-- an order's side, kind, number, price, size, minimum, mark, hidden shares, refresh size and security
 reads : Order → List ℕ → Bool
 reads o =
     sameNumbers
     (sideNumber (o .side) ∷ kindNumber (o .kind) ∷ o .number ∷ priceOf o ∷ sizeOf o ∷ minimumOf (o .kind) ∷ orZero (o .setter) 1
-    ∷ hiddenOf (o .kind) ∷ refreshOf (o .kind) ∷ [])
+    ∷ hiddenOf (o .kind) ∷ refreshOf (o .kind) ∷ o .security ∷ [])
 
 -- an execution's number, price, shares and paragraph
 tells : Execution → List ℕ → Bool
@@ -61,7 +61,14 @@ values =
     recordSound newForm (set setter 2 1) ∷
     recordSound newForm (set unmarked 3 2) ∷
     recordSound newForm (encodeOrder newForm (ofMinimum 500)) ∷
-    -- every byte counts: mark, side, kind, number, price, size, minimum, setter mark, and each byte behind it
+    -- security 1, marked and not, and of a kind without a mark; no other
+    recordSound newForm (set setter 21 1) ∷
+    recordSound newForm (set unmarked 21 1) ∷
+    recordSound newForm (set (encodeOrder newForm (ofMinimum 400)) 21 1) ∷
+    not (recordSound newForm (set setter 21 2)) ∷
+    not (recordSound newForm (set unmarked 21 2)) ∷
+    not (recordSound newForm (set unmarked 21 255)) ∷
+    -- every byte counts: mark, side, kind, number, price, size, minimum, setter mark, and each byte behind the security
     not (recordSound newForm (set setter 1 0)) ∷
     not (recordSound newForm (set setter 0 0)) ∷
     not (recordSound newForm (set setter 2 0)) ∷
@@ -77,15 +84,17 @@ values =
     not (recordSound newForm (set setter 3 2)) ∷
     not (recordSound newForm (encodeOrder newForm (ofMinimum 501))) ∷
     not (recordSound newForm (encodeOrder newForm (ofMinimum 0))) ∷
-    all (λ n. not (recordSound newForm (set setter n 1))) (21 ∷ 22 ∷ 23 ∷ 24 ∷ 25 ∷ 26 ∷ 27 ∷ 28 ∷ 29 ∷ 30 ∷ 31 ∷ []) ∷
+    all (λ n. not (recordSound newForm (set setter n 1))) (22 ∷ 23 ∷ 24 ∷ 25 ∷ 26 ∷ 27 ∷ 28 ∷ 29 ∷ 30 ∷ 31 ∷ []) ∷
     -- hidden shares and a refresh size on no other kind
     all (λ n. not (recordSound newForm (set setter n 1))) (32 ∷ 33 ∷ 34 ∷ 35 ∷ 36 ∷ 37 ∷ 38 ∷ 39 ∷ []) ∷
     not (recordSound newForm (set (set unmarked 3 2) 32 5)) ∷
     not (recordSound newForm (set (encodeOrder newForm (ofMinimum 400)) 36 5)) ∷
     -- what its numbers say
-    reads (decodeOrder newForm setter) (2 ∷ 1 ∷ 258 ∷ 100000 ∷ 600 ∷ 0 ∷ 1 ∷ 0 ∷ 0 ∷ []) ∷
-    reads (decodeOrder newForm (encodeOrder newForm (ofMinimum 400))) (2 ∷ 3 ∷ 1 ∷ 100000 ∷ 500 ∷ 400 ∷ 0 ∷ 0 ∷ 0 ∷ []) ∷
-    reads (decodeOrder newForm (encodeOrder newForm (ofReserve 250 300))) (2 ∷ 4 ∷ 1 ∷ 100000 ∷ 100 ∷ 0 ∷ 1 ∷ 250 ∷ 300 ∷ []) ∷
+    reads (decodeOrder newForm setter) (2 ∷ 1 ∷ 258 ∷ 100000 ∷ 600 ∷ 0 ∷ 1 ∷ 0 ∷ 0 ∷ 0 ∷ []) ∷
+    reads (decodeOrder newForm (encodeOrder newForm (ofMinimum 400))) (2 ∷ 3 ∷ 1 ∷ 100000 ∷ 500 ∷ 400 ∷ 0 ∷ 0 ∷ 0 ∷ 0 ∷ []) ∷
+    reads (decodeOrder newForm (encodeOrder newForm (ofReserve 250 300))) (2 ∷ 4 ∷ 1 ∷ 100000 ∷ 100 ∷ 0 ∷ 1 ∷ 250 ∷ 300 ∷ 0 ∷ []) ∷
+    reads (decodeOrder newForm (set setter 21 1)) (2 ∷ 1 ∷ 258 ∷ 100000 ∷ 600 ∷ 0 ∷ 1 ∷ 0 ∷ 0 ∷ 1 ∷ []) ∷
+    sameNumbers (encodeOrder newForm (decodeOrder newForm (set setter 21 1))) (set setter 21 1) ∷
     -- where the hidden shares and the refresh size stand
     sameNumbers (drop 32 (encodeOrder newForm (ofReserve 250 300))) (0xfa ∷ 0 ∷ 0 ∷ 0 ∷ 0x2c ∷ 1 ∷ 0 ∷ 0 ∷ []) ∷
     -- bytes in the place of others
@@ -99,17 +108,19 @@ worked = refl
 abbrev old : ℕ → ℕ → List ℕ
 old at byte = set (set (take 32 setter) 1 0x42) at byte
 
--- 32 bytes tell kinds 1 to 3, and nothing behind the setter mark
+-- 32 bytes tell kinds 1 to 3 of security 0, and nothing behind the setter mark
 olds : List Bool
 olds =
     recordSound oldForm (old 20 1) ∷
     recordSound oldForm (encodeOrder oldForm (ofMinimum 400)) ∷
     recordSound oldForm (set (old 20 0) 3 2) ∷
-    reads (decodeOrder oldForm (old 20 1)) (2 ∷ 1 ∷ 258 ∷ 100000 ∷ 600 ∷ 0 ∷ 1 ∷ 0 ∷ 0 ∷ []) ∷
+    reads (decodeOrder oldForm (old 20 1)) (2 ∷ 1 ∷ 258 ∷ 100000 ∷ 600 ∷ 0 ∷ 1 ∷ 0 ∷ 0 ∷ 0 ∷ []) ∷
     canTell oldForm (ofMinimum 400) ∷
     not (canTell oldForm (ofReserve 250 100)) ∷
     not (canTell oldForm (ofReserve 0 100)) ∷
     canTell newForm (ofReserve 0 100) ∷
+    not (canTell oldForm (decodeOrder newForm (set setter 21 1))) ∷
+    canTell newForm (decodeOrder newForm (set setter 21 1)) ∷
     not (recordSound oldForm (old 3 4)) ∷
     not (recordSound oldForm (old 3 0)) ∷
     not (recordSound oldForm (old 1 0x43)) ∷

@@ -18,6 +18,7 @@ namedNumbers ns = record {
   setter = getD ns 6 0;
   hidden = getD ns 10 0;
   refresh = getD ns 11 0;
+  security = getD ns 7 0;
 }
 
 abbrev pub formOf : RecordForm → OrderForm

@@ -8,7 +8,7 @@ use Rattle.units.specs.Lists.{inRange, orZero, isZero}
 use Rattle.orders.specs.declared.order.Order.{Order}
 use Rattle.record.specs.Codec.{Form, formBytes, encode, decode, hasMark}
 use Rattle.orders.specs.Order.{sideNumber, sideOf, kindNumber, kindOf, minimumOf, hiddenOf, refreshOf, priceOf, sizeOf}
-use Rattle.orders.specs.Order.{numberInRange, priceInRange, sharesInRange, minimumInRange, reserveInRange}
+use Rattle.orders.specs.Order.{numberInRange, priceInRange, sharesInRange, securityInRange, minimumInRange, reserveInRange}
 
 -- A form of an order's record: its mark and widths, and what such a record can tell beside that which every form tells.
 pub record OrderForm : Type 0 where
@@ -19,11 +19,12 @@ pub record OrderForm : Type 0 where
 abbrev pub commonWidths : List ℕ
 commonWidths = 1 ∷ 1 ∷ 4 ∷ 4 ∷ 4 ∷ 4 ∷ 1 ∷ 1 ∷ 2 ∷ 8 ∷ []
 
--- a new record tells kinds 1 to 4, with hidden shares and a refresh size for kind 4 alone; bytes 21 to 23 are zero
+-- a new record tells kinds 1 to 4, with hidden shares and a refresh size for kind 4 alone, and in byte 21 the security; bytes 22 and 23 are
+-- zero
 unfoldable pub newTells : List ℕ → Bool
 newTells ns =
     inRange 1 4 (getD ns 1 0)
-    && isZero (getD ns 7 0)
+    && securityInRange (getD ns 7 0)
     && isZero (getD ns 8 0)
     && reserveInRange (getD ns 1 0) (getD ns 10 0) (getD ns 11 0)
 
@@ -43,7 +44,7 @@ oldForm = record { layout = record { mark = 0x4f ∷ 0x42 ∷ []; widths = commo
 unfoldable pub numbersOf : Order → List ℕ
 numbersOf o =
     sideNumber (o .side) ∷ kindNumber (o .kind) ∷ o .number ∷ priceOf o ∷ sizeOf o ∷ minimumOf (o .kind) ∷ orZero (o .setter) 1 ∷
-    0 ∷ 0 ∷ 0 ∷ hiddenOf (o .kind) ∷ refreshOf (o .kind) ∷ []
+    o .security ∷ 0 ∷ 0 ∷ hiddenOf (o .kind) ∷ refreshOf (o .kind) ∷ []
 
 -- the order that a record's numbers say; one that the record hasn't is zero
 unfoldable pub orderOf : List ℕ → Order
@@ -54,6 +55,7 @@ orderOf ns = record {
   price = record { 0 = getD ns 3 0 };
   size = record { 0 = getD ns 4 0 };
   setter = eqb (getD ns 6 0) 1;
+  security = getD ns 7 0;
 }
 
 -- in every form each of these numbers is in its range, a setter mark is 0 or 1 and 1 only for kinds 1 and 4, and bytes 24 to 31 are zero

@@ -26,6 +26,7 @@ pub struct Numbers {
     pub setter: u32,
     pub hidden: u32,
     pub refresh: u32,
+    pub security: u32,
 }
 
 // They are read each at its own place.
@@ -36,6 +37,7 @@ pub fn numbers_of(rec: &[u8]) -> Numbers
     let side = rec[2];
     let kind = rec[3];
     let setter = rec[20];
+    let security = rec[21];
     Numbers {
         side: bytes::wide(side),
         kind: bytes::wide(kind),
@@ -46,6 +48,7 @@ pub fn numbers_of(rec: &[u8]) -> Numbers
         setter: bytes::wide(setter),
         hidden: bytes::read_u32(rec, 32),
         refresh: bytes::read_u32(rec, 36),
+        security: bytes::wide(security),
     }
 }
 
@@ -62,6 +65,7 @@ pub fn read(rec: &[u8]) -> Order
         price: Price(n.price),
         size: Shares(n.size),
         setter: n.setter == 1,
+        security: n.security,
     }
 }
 
@@ -83,9 +87,9 @@ fn has_mark(rec: &[u8]) -> bool
     bytes::same(&rec[..2], &NEW_MARK)
 }
 
-// Whether the record is sound: the mark, each number in its range, a setter mark on kinds 1 and 4 alone, zeros in bytes 21 to 31, and
+// Whether the record is sound: the mark, each number in its range, a setter mark on kinds 1 and 4 alone, zeros in bytes 22 to 31, and
 // hidden shares and a refresh size on kind 4 alone. All is read by four bytes, so that the compiler can test several records at once: side and
-// kind are among the first four, and the setter mark is the number of four bytes of which the others are zero.
+// kind are among the first four, the setter mark is the lowest of four bytes, and the others of these are the security with two zeros behind it.
 pub fn is_sound(rec: &[u8]) -> bool
     requires { ⌜ length (now rec) ≡ 40 ⌝ }
     ensures { λ r. ⌜ r ≡ recordSound newForm (now (rec .entry)) ⌝ }
@@ -93,7 +97,8 @@ pub fn is_sound(rec: &[u8]) -> bool
     let head = bytes::read_u32(rec, 0);
     let kind = head / 16_777_216;
     let size = bytes::read_u32(rec, 12);
-    let setter = bytes::read_u32(rec, 20);
+    let marks = bytes::read_u32(rec, 20);
+    let setter = marks % 256;
     has_mark(rec)
         & units::in_range(1, 2, head / 65_536 % 256)
         & units::in_range(1, 4, kind)
@@ -102,6 +107,7 @@ pub fn is_sound(rec: &[u8]) -> bool
         & range::shares_in_range(size)
         & range::minimum_in_range(kind, size, bytes::read_u32(rec, 16))
         & ((setter == 0) | ((setter == 1) & ((kind == 1) | (kind == 4))))
+        & range::security_in_range(marks / 256)
         & (bytes::read_u32(rec, 24) == 0)
         & (bytes::read_u32(rec, 28) == 0)
         & range::reserve_in_range(kind, bytes::read_u32(rec, 32), bytes::read_u32(rec, 36))
@@ -129,6 +135,7 @@ pub fn bytes_of(order: Order) -> [u8; 40]
     let f = mark(order.setter);
     let h = bytes::u32_bytes(kind.hidden().0);
     let r = bytes::u32_bytes(kind.refresh().0);
+    let c = bytes::u32_bytes(order.security);
     let mut rec = [
         0,
         0,
@@ -151,7 +158,7 @@ pub fn bytes_of(order: Order) -> [u8; 40]
         m[2],
         m[3],
         f,
-        0,
+        c[0],
         0,
         0,
         0,

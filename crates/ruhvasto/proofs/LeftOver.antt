@@ -1,4 +1,4 @@
--- What an accepted take leaves over may rest: added at the take's limit on its side, no part of it is refused 5.
+-- What an accepted take leaves over may rest: added at the take's limit on its side in its security, no part of it is refused 5.
 use Prim.Native.Nat.{ℕ, _+_, _≤_, _<_}
 use mathlib.Core.Path.{_≡_, refl, sym, ap, _∙_}
 use mathlib.Core.Bool.{Bool, true, false, cond, not, _||_}
@@ -13,7 +13,7 @@ use Rattle.units.proofs.Members.{member-any}
 use Rattle.orders.specs.declared.order.Kind.the-variants.{Displayed, NonDisplayed, MinimumQuantity, Reserve}
 use Rattle.orders.specs.declared.order.Order.{Order}
 use Rattle.orders.specs.declared.order.Taker.{Taker}
-use Rattle.orders.specs.Order.{minimumOf, interestBy, interestOf, allShares, numberInRange, priceInRange, sharesInRange, minimumInRange, reserveInRange}
+use Rattle.orders.specs.Order.{minimumOf, interestBy, interestOf, allShares, numberInRange, priceInRange, sharesInRange, securityInRange, minimumInRange, reserveInRange}
 use Rattle.orders.specs.Trading.{isTradable, asTaker}
 use Rattle.book.specs.Sound.{sound, ordersOf, capacityOf}
 use Rattle.book.proofs.Refusing.{refusalsOf, not-given}
@@ -23,9 +23,11 @@ use Rattle.matching.specs.declared.TakeRequest.{TakeRequest}
 use Rattle.matching.specs.TakeCall.{incomingOf, takeCall}
 use Rattle.matching.proofs.TakeFair.{take-fair}
 
--- the request adds no more in all than the take left over, at its limit, on its side; its number, kind, minimum and refresh size are free
+-- the request adds no more in all than the take left over, at its limit, on its side, in its security; its number, kind, minimum and
+-- refresh size are free
 pub record AddsLeftOver (q : TakeRequest) (left : ℕ) (r : AddRequest) : Type 0 where
   pub sameSide : r .side ≡ q .side
+  pub sameSecurity : r .security ≡ q .security
   pub atLimit : r .price ≡ q .limit
   pub noMore : r .size + r .hidden ≤ left
 
@@ -40,7 +42,7 @@ module _ (q : TakeRequest) (s x : List ℕ) (e : takeCall q s x .taken .refusal 
   -- the new order trades with whom the incoming order did
   same-taker : asTaker new ≡ incomingOf q .taker
   unfolding requested
-  same-taker = rw (a .sameSide, a .atLimit)
+  same-taker = rw (a .sameSide, a .atLimit, a .sameSecurity)
 
   new-size : allShares (interestOf new) ≤ takeCall q s x .taken .left
   unfolding requested
@@ -73,7 +75,7 @@ module _ (q : TakeRequest) (s x : List ℕ) (e : takeCall q s x .taken .refusal 
   some-shares : requestInRange r ≡ true → 0 < r .size
   some-shares h =
       let ranges = numberInRange (r .number) ∷ priceInRange (r .price) ∷ sharesInRange (r .size) ∷ minimumInRange (r .kind) (r .size) (r .minimum) ∷ reserveInRange (r .kind) (r .hidden) (r .refresh) ∷
-      (not (eqb (r .kind) 4) || eqb (r .refresh) (r .size)) ∷ [] in
+      (not (eqb (r .kind) 4) || eqb (r .refresh) (r .size)) ∷ securityInRange (r .security) ∷ [] in
       let c = chain-true (inRange 1 2 (r .side)) (inRange 1 4 (r .kind) ∷ ranges) h in
       omega (arith, range-true 1 999999 (r .size) (c .1 .1 .1 .1 .0) .0)
 

@@ -25,6 +25,7 @@ order number size = record {
   price = record { 0 = 100000 };
   size = record { 0 = size };
   setter = false;
+  security = 0;
 }
 
 -- one that has left, and one that rests
@@ -74,6 +75,7 @@ reserve number = record {
   price = record { 0 = 100000 };
   size = record { 0 = 100 };
   setter = false;
+  security = 0;
 }
 
 refreshed-worked : sameNumbers

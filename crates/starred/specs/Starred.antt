@@ -45,6 +45,7 @@ sell kind number price size minimum = record {
   minimum = minimum;
   hidden = 0;
   refresh = 0;
+  security = 0;
 }
 
 request : ℕ → Resting → AddRequest
@@ -96,7 +97,7 @@ summary o = o .number ∷ sizeOf o ∷ minimumOf (o .kind) ∷ []
 
 takePasses : List ℕ → Take → Bool
 takePasses s t =
-    let a = takeCall (record { side = 1; limit = ten; size = t .buy; algorithm = t .algorithm }) s (buffer 5) in
+    let a = takeCall (record { side = 1; limit = ten; size = t .buy; algorithm = t .algorithm; security = 0 }) s (buffer 5) in
     let count = length (t .executions) in
     eqb (a .taken .refusal) 0
     && eqb (a .taken .count) count

@@ -1,19 +1,18 @@
 -- What was allocated is the outcome: its executions, the shares left, and the orders afterwards.
 use Prim.Native.Nat.{ℕ, _-_, _≤_, _<_}
 use mathlib.Core.Path.{_≡_, sym, ap, _∙_}
-use mathlib.Core.Bool.{Bool, true, false, _&&_}
+use mathlib.Core.Bool.{Bool, true, false}
 use mathlib.Core.List.{List, [], _∷_, map}
 use native.Mathlib.Omega.{arith}
-use lib.Dec.{leb, ltb}
+use lib.Dec.{ltb}
 use lib.ListN.{length, getD, take, length-map, length-take}
-use borrow.Author.Tests.{leb-true}
 use Rattle.units.specs.Lists.{filter, consIf, zipWith, inRange, sum}
 use Rattle.units.specs.Lots.{roundLot}
 use Rattle.units.proofs.Members.{Every, every-weaken}
-use Rattle.units.proofs.Tests.{and-true}
+use Rattle.units.proofs.Facts.{chain-true, range-true}
 use Rattle.units.specs.declared.Shares.{Shares}
 use Rattle.orders.specs.declared.order.Order.{Order}
-use Rattle.orders.specs.Order.{Visibility, shown, hidden, settled, isResting, priceInRange, sharesInRange}
+use Rattle.orders.specs.Order.{Visibility, shown, hidden, settled, isResting, priceInRange, sharesInRange, securityInRange}
 use Rattle.orders.specs.Losses.{lossesIn}
 use Rattle.book.specs.Sound.{sound, ordersOf, orderAt}
 use Rattle.book.proofs.Soundness.{OrdersSound, orders-sound}
@@ -42,9 +41,9 @@ use Rattle.allocation.proofs.Outcome.{walk-executions, walk-uses, walk-losses}
 -- a size in range is no more than the most
 pub size-most : (q : TakeRequest) → requestInRange q ≡ true → q .size ≤ 999999
 size-most q e =
-    let a = and-true (inRange 1 2 (q .side) && priceInRange (q .limit) && sharesInRange (q .size)) (inRange 1 3 (q .algorithm)) e in
-    let b = and-true (inRange 1 2 (q .side) && priceInRange (q .limit)) (sharesInRange (q .size)) (a .0) in
-    leb-true (q .size) 999999 (and-true (leb 1 (q .size)) (leb (q .size) 999999) (b .1) .1)
+    let ranges = priceInRange (q .limit) ∷ sharesInRange (q .size) ∷ inRange 1 3 (q .algorithm) ∷ securityInRange (q .security) ∷ [] in
+    let a = chain-true (inRange 1 2 (q .side)) ranges e in
+    range-true 1 999999 (q .size) (a .1 .1 .0) .1
 
 -- What a take has come to is the outcome.
 pub record Decided (q : TakeRequest) (s : List ℕ) (end : Ledger) : Type 0 where
@@ -97,7 +96,7 @@ module _ (q : TakeRequest) (s : List ℕ) (e : requestInRange q ≡ true) (f : s
     a : Arranged roundLot alg i os keys
     a = rw (x, y, v) at arranged
 
-    book : Book s roundLot alg (i .taker .side) keys
+    book : Book s roundLot alg (i .taker) keys
     book = record {
       isSound = f;
       hasLot = omega arith;
@@ -106,7 +105,7 @@ module _ (q : TakeRequest) (s : List ℕ) (e : requestInRange q ≡ true) (f : s
     }
 
     -- they can be walked
-    pub arranged-book : Book s (lot .0) algorithm (order .taker .side) keys
+    pub arranged-book : Book s (lot .0) algorithm (order .taker) keys
     arranged-book = rw (x, y, v) book
 
     pub arranged-room : {fills ss hs : List ℕ} → length keys ≤ length fills → ((v : Visibility) → length os ≤ length (seen v ss hs))

@@ -10,7 +10,7 @@ use Rattle.matching.specs.declared.TakeRequest.{TakeRequest}
 use Rattle.matching.specs.TakeCall.{requestInRange}
 use Rattle.allocation.specs.Credit.{seen}
 
--- the numbers are in range, and the book is sound and has n orders
+-- the numbers are in range, and the book is sound and has n orders, of both securities
 pub record Sound (q : TakeRequest) (s : List ℕ) (n : ℕ) : Type 0 where
   pub inRange : requestInRange q ≡ true
   pub isSound : sound s ≡ true

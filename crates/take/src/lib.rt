@@ -26,6 +26,7 @@ pub fn in_range(q: TakeRequest) -> bool
         & range::price_in_range(q.limit)
         & range::shares_in_range(q.size)
         & units::in_range(1, 3, q.algorithm)
+        & range::security_in_range(q.security)
 }
 
 // The incoming order that they say.
@@ -35,6 +36,7 @@ fn incoming_of(q: TakeRequest) -> Incoming
     let taker = Taker {
         side: Side::of(q.side),
         limit: Price(q.limit),
+        security: q.security,
     };
     Incoming {
         taker,
@@ -182,8 +184,8 @@ fn large(book: &mut [u8], executions: &mut [u8], n: usize, request: TakeRequest)
     )
 }
 
-// A take that is checked: its numbers are in range, and the book is sound and has n orders. It can only be refused for want of room for
-// its executions.
+// A take that is checked: its numbers are in range, and the book is sound and n of its records are in use. It can only be refused for want
+// of room for its executions.
 pub fn take_checked(book: &mut [u8], executions: &mut [u8], n: usize, request: TakeRequest) -> Taken
     requires { ⌜ Sound request (now book) n ⌝ }
     ensures { λ r. ⌜ Answers request (now (book .entry)) (now (executions .entry)) r (now (book .exit)) (now (executions .exit)) ⌝ }
@@ -206,10 +208,10 @@ pub fn take(book: &mut [u8], executions: &mut [u8], request: TakeRequest) -> Tak
     if !in_range(request) {
         return refused(1);
     }
-    let checked = lookup::check(book);
-    let refusal = checked.refusal;
+    let occupancy = lookup::occupancy(book);
+    let refusal = occupancy.refusal;
     if refusal != 0 {
         return refused(refusal);
     }
-    take_checked(book, executions, checked.orders as usize, request)
+    take_checked(book, executions, occupancy.records, request)
 }

@@ -1,12 +1,14 @@
 -- A column of numbers that is written place by place.
 use Prim.Native.Nat.{ℕ, suc, _+_, _≤_, _<_}
 use mathlib.Core.Path.{_≡_, refl, sym, ap, _∙_, subst}
+use mathlib.Core.Bool.{Bool, true, false}
 use mathlib.Core.List.{List, [], _∷_, _++_, append-nil, append-assoc}
 use native.Mathlib.Omega.{arith}
 use native.Mathlib.Nat.{add-zero}
 use native.Mathlib.Numerals.{add-one}
 use lib.ListN.{length, getD, take, drop, set, length-set}
-use lib.Seq.{take-all, drop-cons, take-suc-set, drop-set-lt, getD-drop, set-getD}
+use lib.Seq.{take-all, drop-cons, take-suc-set, take-set-le, drop-set-lt, getD-drop, set-getD, append-snoc}
+use Rattle.units.specs.Lists.{consIf, orZero}
 
 -- A column that is written from the front: up to i it is as it shall be, from i on as it was.
 pub record Put (old target now : List ℕ) (i : ℕ) (coming : List ℕ) : Type 0 where
@@ -42,3 +44,10 @@ module _ {old target now : List ℕ} {i : ℕ} {coming : List ℕ} (p : Put old 
   pub put-done : length old ≤ i → coming ≡ [] → now ≡ target
   put-done h e =
       sym (take-all i now (omega (arith, p .long))) ∙ sym (append-nil (take i now)) ∙ ap (λ l. take i now ++ l) (sym e) ∙ p .whole
+
+-- Numbers that are kept or not: each is written behind those kept so far, and stays there if it passes a test. Those kept, with one more if
+-- it passes, and what is to come.
+pub kept-more : (b : Bool) (column : List ℕ) (count x : ℕ) (rest : List ℕ) → count < length column
+    → take (count + orZero b 1) (set column count x) ++ rest ≡ take count column ++ consIf b x rest
+kept-more true column count x rest h = rw (add-one, take-suc-set column count x h) (append-snoc (take count column) x rest)
+kept-more false column count x rest h = rw (add-zero count, take-set-le count column count x (omega arith))

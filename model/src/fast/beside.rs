@@ -5,7 +5,7 @@ use super::ladder::{self, is_ladder_of, Row, RowBytes};
 use super::record::{Bytes, Record};
 use crate::{Refusal, LADDER_LENGTH};
 
-/// Kept beside a book while a call changes it.
+/// Kept beside a book while a call changes orders of one security.
 pub trait Beside {
     /// Whether it is what belongs beside a book of these orders.
     fn fits(&mut self, records: &[Bytes]) -> Result<(), Refusal>;
@@ -34,16 +34,21 @@ impl Beside for Nothing {
     fn executed(&mut self, _: &[Bytes], _: &[Fill], _: u8) {}
 }
 
-/// A lent ladder.
+/// A lent ladder of a security.
 pub struct Ladder<'a> {
+    security: u32,
     bytes: &'a mut [u8],
     /// How many rows are in use, once the ladder fits.
     used: usize,
 }
 
 impl Ladder<'_> {
-    pub fn of(bytes: &mut [u8]) -> Ladder<'_> {
-        Ladder { bytes, used: 0 }
+    pub fn of(security: u32, bytes: &mut [u8]) -> Ladder<'_> {
+        Ladder {
+            security,
+            bytes,
+            used: 0,
+        }
     }
 
     fn rows(&mut self) -> &mut [RowBytes] {
@@ -62,7 +67,8 @@ impl Beside for Ladder<'_> {
         if self.bytes.len() != LADDER_LENGTH {
             return Err(Refusal::LadderLength);
         }
-        let rows = is_ladder_of(self.rows(), records);
+        let security = self.security;
+        let rows = is_ladder_of(self.rows(), records, security);
         self.used = rows.ok_or(Refusal::LadderOfAnotherBook)?;
         Ok(())
     }

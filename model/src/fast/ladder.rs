@@ -3,7 +3,7 @@
 use super::calls::refusal_of;
 use super::record::{hidden_of, Bytes, Record};
 use super::soundness::{all_zero, sound};
-use crate::book::{Side, MOST_ORDERS};
+use crate::book::{security_in_range, Side, MOST_ORDERS};
 use crate::ladder::ROW_LENGTH;
 use crate::{Refusal, LADDER_LENGTH};
 
@@ -163,13 +163,15 @@ impl Counted {
     }
 }
 
-/// Goes through the rows of these orders, in room for `ORDERS` of them.
-fn each_row<const ORDERS: usize>(records: &[Bytes], mut act: impl FnMut(Row)) {
+/// Goes through the rows of a security's orders, in room for `ORDERS` records.
+fn each_row<const ORDERS: usize>(records: &[Bytes], security: u32, mut act: impl FnMut(Row)) {
     let mut orders = [Counted::NONE; ORDERS];
-    let orders = &mut orders[..records.len()];
-    for (place, (order, bytes)) in orders.iter_mut().zip(records).enumerate() {
-        *order = Counted::of(place, Record::of(bytes));
+    let mut count = 0;
+    for (place, record) in records.iter().map(Record::of).enumerate() {
+        orders[count] = Counted::of(place, record);
+        count += usize::from(record.security() == security);
     }
+    let orders = &mut orders[..count];
     if !orders.is_sorted() {
         orders.sort_unstable();
     }
@@ -189,28 +191,31 @@ fn each_row<const ORDERS: usize>(records: &[Bytes], mut act: impl FnMut(Row)) {
 
 /// As above, in room that fits. Clearing room for a full book would cost more
 /// than the rows of a few orders.
-fn rows(records: &[Bytes], act: impl FnMut(Row)) {
+fn rows(records: &[Bytes], security: u32, act: impl FnMut(Row)) {
     match records.len() {
-        0..=16 => each_row::<16>(records, act),
-        17..=64 => each_row::<64>(records, act),
-        _ => each_row::<MOST_ORDERS>(records, act),
+        0..=16 => each_row::<16>(records, security, act),
+        17..=64 => each_row::<64>(records, security, act),
+        _ => each_row::<MOST_ORDERS>(records, security, act),
     }
 }
 
-/// Writes the book's ladder, whatever stood in the buffer. Gives the refusal
+/// Writes the ladder of a security, whatever stood in the buffer. Gives the refusal
 /// number.
-pub fn ladder(book: &[u8], ladder: &mut [u8]) -> u32 {
-    refusal_of(make(book, ladder))
+pub fn ladder(book: &[u8], ladder: &mut [u8], security: u32) -> u32 {
+    refusal_of(make(book, ladder, security))
 }
 
-fn make(book: &[u8], ladder: &mut [u8]) -> Result<(), Refusal> {
+fn make(book: &[u8], ladder: &mut [u8], security: u32) -> Result<(), Refusal> {
+    if !security_in_range(security) {
+        return Err(Refusal::OutOfRange);
+    }
     let orders = sound(book)?.orders;
     if ladder.len() != LADDER_LENGTH {
         return Err(Refusal::LadderLength);
     }
     let places: &mut [RowBytes] = ladder.as_chunks_mut().0;
     let mut used = 0;
-    rows(&book.as_chunks().0[..orders], |row| {
+    rows(&book.as_chunks().0[..orders], security, |row| {
         places[used] = row.bytes();
         used += 1;
     });
@@ -221,21 +226,21 @@ fn make(book: &[u8], ladder: &mut [u8]) -> Result<(), Refusal> {
 /// Up to so many rows it is faster to look for each order's than to sort.
 const FEW: usize = 32;
 
-/// How many rows a ladder has, if it is that of these orders.
-pub fn is_ladder_of(ladder: &[RowBytes], records: &[Bytes]) -> Option<usize> {
+/// How many rows a ladder has, if it is that of a security's orders.
+pub fn is_ladder_of(ladder: &[RowBytes], records: &[Bytes], security: u32) -> Option<usize> {
     let (used, differences) = match ladder[FEW][0] {
-        0 => differences_of_few(ladder, records)?,
-        _ => differences_of_many(ladder, records),
+        0 => differences_of_few(ladder, records, security)?,
+        _ => differences_of_many(ladder, records, security),
     };
     let same = differences == 0 && all_zero(ladder[used..].as_flattened());
     same.then_some(used)
 }
 
 /// The number of rows that these orders have, and whether the ladder's differ.
-fn differences_of_many(ladder: &[RowBytes], records: &[Bytes]) -> (usize, u64) {
+fn differences_of_many(ladder: &[RowBytes], records: &[Bytes], security: u32) -> (usize, u64) {
     let mut differences = 0;
     let mut used = 0;
-    rows(records, |row| {
+    rows(records, security, |row| {
         differences |= row.difference(Row::read(&ladder[used]));
         used += 1;
     });
@@ -244,7 +249,11 @@ fn differences_of_many(ladder: &[RowBytes], records: &[Bytes]) -> (usize, u64) {
 
 /// As above, of a ladder whose own rows, if they stand in order, say where each
 /// order counts. One that has no row, or a row without orders, makes it wrong.
-fn differences_of_few(ladder: &[RowBytes], records: &[Bytes]) -> Option<(usize, u64)> {
+fn differences_of_few(
+    ladder: &[RowBytes],
+    records: &[Bytes],
+    security: u32,
+) -> Option<(usize, u64)> {
     let mut ranks = [0; FEW];
     let mut used = 0;
     while used < FEW && ladder[used][0] != 0 {
@@ -256,7 +265,8 @@ fn differences_of_few(ladder: &[RowBytes], records: &[Bytes]) -> Option<(usize, 
         return None;
     }
     let mut counted = [Row::new(0); FEW];
-    for record in records.iter().map(Record::of) {
+    let of_security = |record: &Record| record.security() == security;
+    for record in records.iter().map(Record::of).filter(of_security) {
         let row = &mut counted[ranks.binary_search(&rank(record)).ok()?];
         *row = row.with(record);
     }

@@ -14,6 +14,8 @@ const FIRST_FORM: u32 = 0x01_01_43_4F;
 const LAST_FORM: u64 = 0x02FF;
 const MOST_PRICE_AND_SIZE: u64 = (LARGEST_SIZE as u64) << 32 | HIGHEST_PRICE as u64;
 const MOST_HIDDEN_AND_REFRESH: u64 = (LARGEST_SIZE as u64) << 32 | LARGEST_SIZE as u64;
+/// The one bit that a security has, beside minimum and setter mark.
+const SECURITY: u64 = 1 << 40;
 /// The top bits of the two numbers of four bytes in a word.
 const TOP_BITS: u64 = 1 << 63 | 1 << 31;
 
@@ -61,9 +63,12 @@ impl Record {
         self.words[2] as u32
     }
 
-    /// The setter mark, and above it three bytes that are zero in a sound record.
     pub fn setter(self) -> u32 {
-        (self.words[2] >> 32) as u32
+        (self.words[2] >> 32) as u32 & 0xFF
+    }
+
+    pub fn security(self) -> u32 {
+        u32::from(self.words[2] & SECURITY != 0)
     }
 
     pub fn hidden(self) -> u32 {
@@ -93,13 +98,15 @@ impl Record {
     /// reserve order this is asked as of a displayed one, and `reserve_faults`
     /// beside it.
     ///
-    /// The second word has price and size side by side, the third the minimum and
-    /// the setter mark. Both fields of a word are held to their bounds by one
-    /// subtraction of words each way: no bound reaches the top bit of its field,
-    /// and so a field out of range sets the top bit of one of the differences.
+    /// The second word has price and size side by side, the third the minimum and the
+    /// setter mark, if the security's bit is left out. Both fields of a word are held
+    /// to their bounds by one subtraction of words each way: no bound reaches the top
+    /// bit of its field, and so a field out of range sets the top bit of one of the
+    /// differences.
     #[inline(always)]
     pub fn faults(self, number_before: u32) -> u64 {
-        let [head, price_and_size, minimum_and_setter, zero, none_hidden] = self.words;
+        let [head, price_and_size, third, zero, none_hidden] = self.words;
+        let minimum_and_setter = third & !SECURITY;
         // The kind less 1 in the second byte, the side less 1 in the first, and
         // nothing above them if the mark is right.
         let form = (head as u32).wrapping_sub(FIRST_FORM).rotate_right(16);
@@ -130,10 +137,10 @@ impl Record {
     /// A reserve order as a displayed one of what it shows.
     #[inline(always)]
     pub fn shown(self) -> Record {
-        let [head, price_and_size, minimum_and_setter, zero, _] = self.words;
+        let [head, price_and_size, third, zero, _] = self.words;
         let head = head - (u64::from(RESERVE - DISPLAYED) << 24);
         Record {
-            words: [head, price_and_size, minimum_and_setter, zero, 0],
+            words: [head, price_and_size, third, zero, 0],
         }
     }
 }

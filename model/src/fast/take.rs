@@ -60,20 +60,8 @@ impl Algorithm {
 type Outcome = Result<(usize, u32), Refusal>;
 
 /// The refusal number, the count of executions and the shares left.
-pub fn take(
-    book: &mut [u8],
-    executions: &mut [u8],
-    side: u32,
-    limit: u32,
-    size: u32,
-    algorithm: u32,
-) -> (u32, u32, u32) {
-    numbers_of(execute(
-        book,
-        executions,
-        [side, limit, size, algorithm],
-        Nothing,
-    ))
+pub fn take(book: &mut [u8], executions: &mut [u8], incoming: [u32; 5]) -> (u32, u32, u32) {
+    numbers_of(execute(book, executions, incoming, Nothing))
 }
 
 /// Take that keeps the ladder.
@@ -81,9 +69,11 @@ pub fn take_ladder(
     book: &mut [u8],
     executions: &mut [u8],
     ladder: &mut [u8],
-    incoming: [u32; 4],
+    incoming: [u32; 5],
 ) -> (u32, u32, u32) {
-    numbers_of(execute(book, executions, incoming, Ladder::of(ladder)))
+    let [.., security] = incoming;
+    let ladder = Ladder::of(security, ladder);
+    numbers_of(execute(book, executions, incoming, ladder))
 }
 
 fn numbers_of(outcome: Outcome) -> (u32, u32, u32) {
@@ -96,16 +86,19 @@ fn numbers_of(outcome: Outcome) -> (u32, u32, u32) {
 fn execute(
     book: &mut [u8],
     executions: &mut [u8],
-    incoming: [u32; 4],
+    incoming: [u32; 5],
     mut beside: impl Beside,
 ) -> Outcome {
-    let [side, limit, size, algorithm] = incoming;
+    let [side, limit, size, algorithm, security] = incoming;
     let side = Side::of_number(side).ok_or(Refusal::OutOfRange)?;
     let algorithm = Algorithm::of_number(algorithm).ok_or(Refusal::OutOfRange)?;
-    if !book::price_in_range(limit) || !book::size_in_range(size) {
+    let in_range = book::price_in_range(limit)
+        && book::size_in_range(size)
+        && book::security_in_range(security);
+    if !in_range {
         return Err(Refusal::OutOfRange);
     }
-    let taker = Taker::new(side, limit, size);
+    let taker = Taker::new(security, side, limit, size);
     let sound = sound(book)?;
     let records = &mut book.as_chunks_mut().0[..sound.orders];
     beside.fits(records)?;

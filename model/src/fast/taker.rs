@@ -6,6 +6,7 @@ use crate::book::Side;
 /// An order that comes in: whom it may trade with, and at which price.
 #[derive(Clone, Copy)]
 pub struct Taker {
+    security: u32,
     side: Side,
     pub size: u32,
     /// Turns a price into its rank.
@@ -15,12 +16,13 @@ pub struct Taker {
 }
 
 impl Taker {
-    pub fn new(side: Side, limit: u32, size: u32) -> Taker {
+    pub fn new(security: u32, side: Side, limit: u32, size: u32) -> Taker {
         let turn = match side {
             Side::Buy => 0,
             Side::Sell => u32::MAX,
         };
         Taker {
+            security,
             side,
             size,
             turn,
@@ -33,21 +35,23 @@ impl Taker {
         price ^ self.turn
     }
 
-    /// Whether a resting order is on the other side, within the limit, and has no
-    /// minimum above the size.
+    /// Whether a resting order of its security is on the other side, within the limit,
+    /// and has no minimum above the size.
     #[inline(always)]
     pub fn may_trade_with(self, resting: Record) -> bool {
         !resting.is_on(self.side)
             & (self.rank(resting.price()) <= self.limit)
             & (resting.minimum() <= self.size)
+            & (resting.security() == self.security)
     }
 
-    /// Whether a resting order is displayed on its own side, at its limit or a
-    /// better price.
+    /// Whether a resting order of its security is displayed on its own side, at its
+    /// limit or a better price.
     #[inline(always)]
     pub fn is_rivalled_by(self, resting: Record) -> bool {
         resting.is_on(self.side)
             & resting.is_displayed()
             & (self.rank(resting.price()) >= self.limit)
+            & (resting.security() == self.security)
     }
 }

@@ -1,6 +1,7 @@
 //! Old books into the new form and back.
 
-use super::{Market, BUY, PRICE, SELL};
+use super::securities::of_orders;
+use super::{Market, BUY, PRICE, SECURITY, SELL};
 use crate::{check, to_new, to_old};
 
 /// One of the two calls.
@@ -68,7 +69,7 @@ fn an_order_has_these_bytes_in_both_forms() {
     new[1] = 0x43;
     assert_eq!(turned(to_new, &old, 40), new);
     assert_eq!(turned(to_old, &new, 32), old);
-    assert_eq!(check(&new), (0, 1));
+    assert_eq!(check(&new, SECURITY), (0, 1));
 }
 
 /// Whatever stood in the target: every byte behind the orders becomes zero.
@@ -84,7 +85,7 @@ fn all_kinds_and_marks_go_both_ways() {
         let old = in_old_form(&market.book, records);
         assert_eq!(turned(to_new, &source(&market, 32), 40 * records), new);
         assert_eq!(turned(to_old, &source(&market, 40), 32 * records), old);
-        assert_eq!(check(&new), (0, ORDERS as u32));
+        assert_eq!(check(&new, SECURITY), (0, ORDERS as u32));
     }
 }
 
@@ -162,13 +163,20 @@ fn an_empty_book_may_have_any_capacity() {
 /// Whatever else the book has, and whatever the target.
 #[test]
 fn an_order_that_the_old_form_cannot_tell_is_refused_11() {
-    for reserve in ["R 100+250/100", "R 100+0/100", "R 1+0/1"] {
-        for place in 1..=3 {
-            let mut market = Market::new(4);
-            for number in 1..=3 {
-                let order = if number == place { reserve } else { "D 100" };
-                market.accept(SELL, number, PRICE, order);
-            }
+    let usual = (0, SELL, PRICE, "D 100");
+    for untold in [
+        (0, SELL, PRICE, "R 100+250/100"),
+        (0, SELL, PRICE, "R 100+0/100"),
+        (0, SELL, PRICE, "R 1+0/1"),
+        (1, SELL, PRICE, "D 100"),
+        (1, BUY, PRICE, "H 1"),
+        (1, SELL, 1, "M 5/5"),
+        (1, SELL, PRICE, "R 100+0/100"),
+    ] {
+        for place in 0..3 {
+            let mut orders = [usual; 3];
+            orders[place] = untold;
+            let market = of_orders(4, &orders);
             for length in [96, 128, 8_192, 0, 33, 39, 41, 64, 97, 8_224] {
                 refused(to_old, 11, &market.book, length);
             }
@@ -179,7 +187,7 @@ fn an_order_that_the_old_form_cannot_tell_is_refused_11() {
 #[test]
 fn an_unsound_source_is_refused_2_before_all() {
     let mut market = Market::of_sells("D 100, R 100+250/100");
-    market.book[40 + 21] = 1;
+    market.book[40 + 22] = 1;
     for length in [64, 256, 0, 33, 8_224] {
         refused(to_old, 2, &market.book, length);
     }

@@ -1,31 +1,35 @@
-//! A desk: a market with a ladder beside its book, and the forms that keep it.
+//! A desk: a market with a security's ladder beside its book, and the forms that
+//! keep it.
 
-use super::ladders::{assert_same, ladder_of, new_ladder, Level};
-use super::{described, Market, BUY, PRICE, SELL};
+use super::ladders::{assert_same, ladder_of, new_ladder_of, Level};
+use super::{described, Market, BUY, PRICE, SECURITY, SELL};
 
-/// A market with a ladder beside its book.
+/// A market with a security's ladder beside its book.
 #[derive(Clone)]
 pub struct Desk {
     pub market: Market,
+    pub security: u32,
     pub ladder: Vec<u8>,
 }
 
 #[derive(Clone, Copy, Debug)]
 pub enum Form {
-    Add([u32; 8]),
-    Reduce([u32; 2]),
-    Take([u32; 4]),
+    Add([u32; 9]),
+    /// Security, number and shares.
+    Reduce([u32; 3]),
+    Take([u32; 5]),
 }
 
 impl Form {
     /// The form's numbers and what it leaves.
     pub fn kept(self, desk: &Desk) -> (Desk, [u32; 3]) {
         let mut after = desk.clone();
-        let Desk { market, ladder } = &mut after;
+        let Desk { market, ladder, .. } = &mut after;
         let numbers = match self {
             Form::Add(order) => [crate::add_ladder(&mut market.book, ladder, order), 0, 0],
-            Form::Reduce([number, shares]) => {
-                let refusal = crate::reduce_ladder(&mut market.book, ladder, number, shares);
+            Form::Reduce([security, number, shares]) => {
+                let book = &mut market.book;
+                let refusal = crate::reduce_ladder(book, ladder, security, number, shares);
                 [refusal, 0, 0]
             }
             Form::Take(incoming) => {
@@ -43,9 +47,11 @@ impl Form {
         let Market { book, executions } = &mut after;
         let numbers = match self {
             Form::Add(order) => [crate::add(book, order), 0, 0],
-            Form::Reduce([number, shares]) => [crate::reduce(book, number, shares), 0, 0],
-            Form::Take([side, limit, size, algorithm]) => {
-                let taken = crate::take(book, executions, side, limit, size, algorithm);
+            Form::Reduce([security, number, shares]) => {
+                [crate::reduce(book, security, number, shares), 0, 0]
+            }
+            Form::Take(incoming) => {
+                let taken = crate::take(book, executions, incoming);
                 [taken.0, taken.1, taken.2]
             }
         };
@@ -55,8 +61,16 @@ impl Form {
 
 impl Desk {
     pub fn of(market: Market) -> Desk {
-        let ladder = new_ladder(&market);
-        Desk { market, ladder }
+        Desk::of_security(market, SECURITY)
+    }
+
+    pub fn of_security(market: Market, security: u32) -> Desk {
+        let ladder = new_ladder_of(&market, security);
+        Desk {
+            market,
+            security,
+            ladder,
+        }
     }
 
     /// A desk of these orders: side, price and what is written.
@@ -84,7 +98,7 @@ impl Desk {
         assert_eq!(after.market.book, plain.book, "{form:?}");
         assert_eq!(after.market.executions, plain.executions, "{form:?}");
         assert_same(&after.ladder, &ladder_of(levels));
-        assert_same(&after.ladder, &new_ladder(&after.market));
+        assert_same(&after.ladder, &new_ladder_of(&after.market, self.security));
         *self = after;
     }
 
@@ -111,6 +125,14 @@ impl Desk {
 
 pub fn add(side: u32, number: u32, price: u32, order: &str) -> Form {
     Form::Add(described(side, number, price, order))
+}
+
+pub const fn reduce(number: u32, shares: u32) -> Form {
+    Form::Reduce([SECURITY, number, shares])
+}
+
+pub const fn take(side: u32, limit: u32, size: u32, algorithm: u32) -> Form {
+    Form::Take([side, limit, size, algorithm, SECURITY])
 }
 
 /// Two sells at each of two prices, one displayed and one not, and a buy.

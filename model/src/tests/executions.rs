@@ -1,10 +1,10 @@
 //! The bytes of executions, and the paragraph that each of them names.
 
-use super::{Market, BUY, PRICE, SELL};
+use super::{Market, BUY, PRICE, SECURITY, SELL};
 use crate::{fast, Execution};
 
 /// Take of the plain model, and of the fast one.
-type Take = fn(&mut [u8], &mut [u8], u32, u32, u32, u32) -> (u32, u32, u32);
+type Take = fn(&mut [u8], &mut [u8], [u32; 5]) -> (u32, u32, u32);
 pub const TAKES: [Take; 2] = [crate::take, fast::take];
 
 /// An order for each paragraph of the pro rata algorithm, and what each executes
@@ -51,7 +51,8 @@ fn taken(take: Take, market: &Market, numbers: [u32; 4]) -> (Vec<u8>, u32) {
         mut executions,
     } = market.clone();
     let [side, limit, size, algorithm] = numbers;
-    let (refusal, count, _) = take(&mut book, &mut executions, side, limit, size, algorithm);
+    let incoming = [side, limit, size, algorithm, SECURITY];
+    let (refusal, count, _) = take(&mut book, &mut executions, incoming);
     assert_eq!(refusal, 0, "{numbers:?}");
     (executions, count)
 }
@@ -183,7 +184,7 @@ fn a_setter_and_those_beside_it_are_in_paragraph_2() {
 #[test]
 fn a_setter_below_a_lot_is_in_paragraph_3() {
     let mut market = Market::of_sells("D 150, D 800");
-    assert_eq!(crate::reduce(&mut market.book, 1, 60), 0);
+    assert_eq!(market.reduce(1, 60), 0);
     let executed = [at_price(2, 2, 800), at_price(3, 1, 50)];
     writes(&market, [BUY, PRICE, 850, 3], &executed);
 }

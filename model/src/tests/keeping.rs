@@ -1,6 +1,6 @@
 //! What the forms of add, reduce and take leave in a ladder.
 
-use super::desk::{add, two_levels, Desk, Form, BID, LOWER, UPPER};
+use super::desk::{add, reduce, take, two_levels, Desk, BID, LOWER, UPPER};
 use super::ladders::{full_book, full_levels};
 use super::{Market, BUY, PRICE, SELL};
 use crate::book::LARGEST_SIZE;
@@ -41,21 +41,21 @@ fn a_new_row_goes_to_its_place() {
 #[test]
 fn a_row_leaves_with_its_last_order() {
     let mut desk = two_levels();
-    desk.accept(Form::Reduce([5, 700]), &[LOWER, UPPER]);
+    desk.accept(reduce(5, 700), &[LOWER, UPPER]);
     let lower = [SELL, PRICE, 100, 0, 1];
-    desk.accept(Form::Reduce([2, 200]), &[lower, UPPER]);
-    desk.accept(Form::Reduce([4, 100]), &[UPPER]);
-    desk.accept(Form::Reduce([1, 300]), &[[SELL, PRICE + 1, 0, 400, 1]]);
-    desk.accept(Form::Reduce([3, 400]), &[]);
+    desk.accept(reduce(2, 200), &[lower, UPPER]);
+    desk.accept(reduce(4, 100), &[UPPER]);
+    desk.accept(reduce(1, 300), &[[SELL, PRICE + 1, 0, 400, 1]]);
+    desk.accept(reduce(3, 400), &[]);
 }
 
 #[test]
 fn reduce_takes_shares_from_their_own_column() {
     let mut desk = two_levels();
     let upper = [SELL, PRICE + 1, 1, 400, 2];
-    desk.accept(Form::Reduce([1, 299]), &[LOWER, upper, BID]);
+    desk.accept(reduce(1, 299), &[LOWER, upper, BID]);
     let upper = [SELL, PRICE + 1, 1, 50, 2];
-    desk.accept(Form::Reduce([3, 350]), &[LOWER, upper, BID]);
+    desk.accept(reduce(3, 350), &[LOWER, upper, BID]);
 }
 
 /// Displayed and other shares of both prices trade.
@@ -63,7 +63,7 @@ fn reduce_takes_shares_from_their_own_column() {
 fn take_empties_one_level_and_thins_the_next() {
     let mut desk = two_levels();
     let upper = [SELL, PRICE + 1, 0, 390, 1];
-    let buy = Form::Take([BUY, PRICE + 1, 610, 2]);
+    let buy = take(BUY, PRICE + 1, 610, 2);
     desk.accept(buy, &[upper, BID]);
     let mut desk = Desk::with(&[
         (BUY, PRICE - 1, "H 200"),
@@ -74,7 +74,7 @@ fn take_empties_one_level_and_thins_the_next() {
     ]);
     let ask = [SELL, PRICE + 1, 700, 0, 1];
     let levels = [ask, [BUY, PRICE - 1, 0, 190, 1]];
-    desk.accept(Form::Take([SELL, PRICE - 1, 610, 3]), &levels);
+    desk.accept(take(SELL, PRICE - 1, 610, 3), &levels);
 }
 
 /// A level in the midst may stay whole, where its minimum isn't met.
@@ -87,13 +87,13 @@ fn take_leaves_a_level_between_two_that_it_empties() {
     ];
     let mut desk = Desk::with(&orders);
     let stays = [SELL, PRICE + 1, 0, 400, 1];
-    desk.accept(Form::Take([BUY, PRICE + 2, 200, 1]), &[stays]);
+    desk.accept(take(BUY, PRICE + 2, 200, 1), &[stays]);
 }
 
 #[test]
 fn take_of_nothing_changes_no_row() {
     let mut desk = two_levels();
-    let nothing = Form::Take([BUY, PRICE - 1, 450, 2]);
+    let nothing = take(BUY, PRICE - 1, 450, 2);
     desk.accept(nothing, &[LOWER, UPPER, BID]);
     desk.with_wrong_byte(0).refuse(10, nothing);
     let mut empty = Desk::of(Market::new(0));
@@ -105,10 +105,10 @@ fn take_of_nothing_changes_no_row() {
 fn forms_count_256_orders_of_a_price() {
     let mut desk = Desk::of(full_book(SELL, 256));
     let fewer = [SELL, PRICE, 255 * LARGEST_SIZE, 0, 255];
-    desk.accept(Form::Reduce([7, LARGEST_SIZE]), &[fewer]);
+    desk.accept(reduce(7, LARGEST_SIZE), &[fewer]);
     let form = add(SELL, 257, PRICE, "H 10");
     desk.accept(form, &[[SELL, PRICE, 255 * LARGEST_SIZE, 10, 256]]);
-    let buy = Form::Take([BUY, PRICE, LARGEST_SIZE, 1]);
+    let buy = take(BUY, PRICE, LARGEST_SIZE, 1);
     desk.accept(buy, &[[SELL, PRICE, 254 * LARGEST_SIZE, 10, 255]]);
 }
 
@@ -120,7 +120,7 @@ fn forms_move_256_rows() {
         let mut levels = full_levels(side, 1);
         let first = levels.remove(0);
         let opposite = BUY + SELL - side;
-        let take = Form::Take([opposite, first[1], LARGEST_SIZE, 1]);
+        let take = take(opposite, first[1], LARGEST_SIZE, 1);
         desk.accept(take, &levels);
         assert!(desk.ladder[255 * 24..].iter().all(|&byte| byte == 0));
         let again = add(side, 257, first[1], &format!("D {LARGEST_SIZE}"));

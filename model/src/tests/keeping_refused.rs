@@ -1,23 +1,23 @@
 //! The refusals of the forms that keep a ladder, in their order.
 
-use super::desk::{add, two_levels, Desk, Form, BID, LOWER, UPPER};
+use super::desk::{add, reduce, take, two_levels, Desk, Form, BID, LOWER, UPPER};
 use super::ladders::{ladder_of, WRONG_LENGTHS};
-use super::{Market, BUY, PRICE, SELL};
+use super::{Market, BUY, PRICE, SECURITY, SELL};
 use crate::LADDER_LENGTH;
 
 /// A form of each sort that is accepted on a desk of two levels, and one
 /// that is refused there for each reason behind 10.
 const ACCEPTED: [Form; 4] = [
-    Form::Add([BUY, 1, 6, PRICE - 2, 100, 0, 0, 0]),
-    Form::Reduce([1, 300]),
-    Form::Take([BUY, PRICE + 1, 450, 2]),
-    Form::Take([BUY, PRICE - 1, 450, 2]),
+    Form::Add([BUY, 1, 6, PRICE - 2, 100, 0, 0, 0, SECURITY]),
+    reduce(1, 300),
+    take(BUY, PRICE + 1, 450, 2),
+    take(BUY, PRICE - 1, 450, 2),
 ];
 const REFUSED: [(u32, Form); 4] = [
-    (3, Form::Reduce([6, 1])),
-    (4, Form::Add([BUY, 1, 5, PRICE - 2, 100, 0, 0, 0])),
-    (5, Form::Add([BUY, 1, 6, PRICE, 100, 0, 0, 0])),
-    (7, Form::Reduce([1, 301])),
+    (3, reduce(6, 1)),
+    (4, Form::Add([BUY, 1, 5, PRICE - 2, 100, 0, 0, 0, SECURITY])),
+    (5, Form::Add([BUY, 1, 6, PRICE, 100, 0, 0, 0, SECURITY])),
+    (7, reduce(1, 301)),
 ];
 
 /// Every form of those.
@@ -63,8 +63,10 @@ fn a_ladder_of_another_book_is_refused_10() {
         after.ladder,
         vec![0xEE; LADDER_LENGTH],
     ] {
-        let market = desk.market.clone();
-        let wrong = Desk { market, ladder };
+        let wrong = Desk {
+            ladder,
+            ..desk.clone()
+        };
         every_form().for_each(|form| wrong.refuse(10, form));
     }
 }
@@ -77,9 +79,9 @@ fn forms_are_refused_in_this_order() {
     let mut unsound = desk.clone();
     unsound.market.book[31] = 1;
     let out_of_range = [
-        Form::Add([BUY, 1, 0, PRICE, 100, 0, 0, 0]),
-        Form::Reduce([0, 1]),
-        Form::Take([BUY, PRICE, 0, 2]),
+        Form::Add([BUY, 1, 0, PRICE, 100, 0, 0, 0, SECURITY]),
+        reduce(0, 1),
+        take(BUY, PRICE, 0, 2),
     ];
     for length in WRONG_LENGTHS.into_iter().chain([LADDER_LENGTH]) {
         let unsound = unsound.with_length(length);
@@ -117,7 +119,7 @@ fn a_full_book_is_refused_6_behind_a_wrong_ladder() {
 #[test]
 fn a_take_that_is_refused_8_keeps_the_ladder() {
     let mut desk = two_levels();
-    let buy = Form::Take([BUY, PRICE + 1, 610, 2]);
+    let buy = take(BUY, PRICE + 1, 610, 2);
     for room in [0, 15, 16, 48, 63] {
         desk.market.executions = vec![0x77; room];
         desk.refuse(8, buy);

@@ -1,6 +1,6 @@
 //! The bytes that the new call makes of a book, and its refusals.
 
-use super::{Market, BUY, PRICE, SELL};
+use super::{Market, BUY, PRICE, SECURITY, SELL};
 use crate::book::{LARGEST_SIZE, RECORD_LENGTH};
 use crate::LADDER_LENGTH;
 
@@ -26,8 +26,13 @@ pub fn ladder_of(levels: &[Level]) -> Vec<u8> {
 
 /// What the new call makes of a book, in a buffer that held other bytes.
 pub fn new_ladder(market: &Market) -> Vec<u8> {
+    new_ladder_of(market, SECURITY)
+}
+
+/// As above, of a security.
+pub fn new_ladder_of(market: &Market, security: u32) -> Vec<u8> {
     let mut ladder = vec![0xEE; LADDER_LENGTH];
-    assert_eq!(crate::ladder(&market.book, &mut ladder), 0);
+    assert_eq!(crate::ladder(&market.book, &mut ladder, security), 0);
     ladder
 }
 
@@ -182,7 +187,7 @@ fn the_new_call_writes_over_whatever_stood_there() {
         new_ladder(&market),
     ] {
         let mut ladder = before;
-        assert_eq!(crate::ladder(&market.book, &mut ladder), 0);
+        assert_eq!(crate::ladder(&market.book, &mut ladder, SECURITY), 0);
         assert_same(&ladder, &expected);
     }
 }
@@ -194,7 +199,11 @@ fn the_new_call_is_refused_in_this_order() {
     unsound[RECORD_LENGTH - 1] = 1;
     let refused = |refusal, book: &[u8], length| {
         let mut ladder = vec![0xEE; length];
-        assert_eq!(crate::ladder(book, &mut ladder), refusal, "{length}");
+        assert_eq!(
+            crate::ladder(book, &mut ladder, SECURITY),
+            refusal,
+            "{length}"
+        );
         assert!(ladder.iter().all(|&byte| byte == 0xEE));
     };
     for length in WRONG_LENGTHS {

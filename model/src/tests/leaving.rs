@@ -1,7 +1,7 @@
 //! What a take leaves of a full book that every second order leaves.
 
 use super::executions::TAKES;
-use super::{Market, BUY, PRICE, SELL};
+use super::{Market, BUY, PRICE, SECURITY, SELL};
 use crate::book::{self, RECORD_LENGTH};
 
 /// The size of the order at a place.
@@ -33,15 +33,8 @@ fn every_second_leaves(first: u32, lost: u32, algorithm: u32) {
             mut book,
             mut executions,
         } = market.clone();
-        let incoming = better + lost;
-        let taken = take(
-            &mut book,
-            &mut executions,
-            BUY,
-            PRICE + 1,
-            incoming,
-            algorithm,
-        );
+        let incoming = [BUY, PRICE + 1, better + lost, algorithm, SECURITY];
+        let taken = take(&mut book, &mut executions, incoming);
         assert_eq!(taken, (0, 128 + u32::from(lost > 0), 0));
         let orders = book::read(&book).expect("a sound book");
         let resting: Vec<(u32, u32)> = orders.iter().map(|o| (o.number, o.size)).collect();

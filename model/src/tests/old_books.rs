@@ -1,6 +1,7 @@
 //! What makes an old book sound, and the program convert.
 
 use super::conversions::{all_kinds, in_old_form, refused, turned};
+use super::securities::of_orders;
 use super::{Market, PRICE, SELL};
 use crate::{convert, to_new};
 
@@ -116,6 +117,8 @@ fn convert_prints_a_refusal_alone() {
         convert(&Market::of_sells("R 100+0/100").book),
         b"refused 11\n"
     );
+    let second = of_orders(2, &[(0, SELL, PRICE, "D 100"), (1, SELL, PRICE, "D 100")]);
+    assert_eq!(convert(&second.book), b"refused 11\n");
     let mut market = Market::of_sells("D 100, R 100+250/100");
     assert_eq!(convert(&market.book), b"refused 11\n");
     market.book[31] = 1;

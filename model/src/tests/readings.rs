@@ -98,7 +98,7 @@ fn each_price_has_its_own_setter() {
 #[test]
 fn a_small_setter_has_no_guarantee() {
     let mut market = Market::of_sells("D 150, D 800");
-    assert_eq!(crate::reduce(&mut market.book, 1, 60), 0);
+    assert_eq!(market.reduce(1, 60), 0);
     assert!(market.orders()[0].setter);
     assert_eq!(market.shares_of_buy(500, 3), [0, 500]);
 }

@@ -1,7 +1,7 @@
 //! The refusals, in the order in which they are looked at. Each call below has
 //! a condition, and often those of later refusals as well.
 
-use super::{Market, BUY, PRICE, SELL};
+use super::{described, Market, BUY, PRICE, SECURITY, SELL};
 
 /// A full book of a displayed buy and a minimum quantity sell above it.
 fn full_book() -> Market {
@@ -18,7 +18,7 @@ fn unsound_book() -> Market {
 }
 
 /// Asserts a refusal of add that leaves the book as it was.
-pub fn add_refused(market: &Market, refusal: u32, numbers: [u32; 8]) {
+pub fn add_refused(market: &Market, refusal: u32, numbers: [u32; 9]) {
     let mut book = market.book.clone();
     assert_eq!(crate::add(&mut book, numbers), refusal, "{numbers:?}");
     assert_eq!(book, market.book);
@@ -26,7 +26,8 @@ pub fn add_refused(market: &Market, refusal: u32, numbers: [u32; 8]) {
 
 pub fn reduce_refused(market: &Market, refusal: u32, number: u32, shares: u32) {
     let mut book = market.book.clone();
-    assert_eq!(crate::reduce(&mut book, number, shares), refusal);
+    let given = crate::reduce(&mut book, SECURITY, number, shares);
+    assert_eq!(given, refusal);
     assert_eq!(book, market.book);
 }
 
@@ -34,7 +35,8 @@ pub fn take_refused(market: &Market, refusal: u32, numbers: [u32; 4], room: usiz
     let mut book = market.book.clone();
     let mut executions = vec![0x77; room];
     let [side, limit, size, algorithm] = numbers;
-    let given = crate::take(&mut book, &mut executions, side, limit, size, algorithm);
+    let incoming = [side, limit, size, algorithm, SECURITY];
+    let given = crate::take(&mut book, &mut executions, incoming);
     assert_eq!(given, (refusal, 0, 0), "{numbers:?}");
     assert_eq!(book, market.book);
     assert!(executions.iter().all(|&byte| byte == 0x77));
@@ -42,7 +44,7 @@ pub fn take_refused(market: &Market, refusal: u32, numbers: [u32; 4], room: usiz
 
 #[test]
 fn numbers_of_add_out_of_range_come_first() {
-    let sound = [SELL, 3, 1, 1, 500, 400, 0, 0];
+    let sound = described(SELL, 1, 1, "M 500/400");
     add_refused(&unsound_book(), 2, sound);
     for (place, number) in [
         (0, 0),
@@ -67,40 +69,49 @@ fn numbers_of_add_out_of_range_come_first() {
         (5, u32::MAX),
         (6, 1),
         (7, 500),
+        (8, 2),
+        (8, u32::MAX),
     ] {
         let mut wrong = sound;
         wrong[place] = number;
         add_refused(&unsound_book(), 1, wrong);
     }
     for kind in [1, 2] {
-        add_refused(&unsound_book(), 1, [SELL, kind, 1, 1, 500, 1, 0, 0]);
+        add_refused(
+            &unsound_book(),
+            1,
+            [SELL, kind, 1, 1, 500, 1, 0, 0, SECURITY],
+        );
     }
 }
 
 #[test]
 fn add_is_refused_in_this_order() {
-    let trading = [SELL, 1, 7, PRICE, 100, 0, 0, 0];
+    let trading = described(SELL, 7, PRICE, "D 100");
     add_refused(&full_book(), 4, trading);
-    add_refused(&full_book(), 4, [SELL, 1, 5, PRICE, 100, 0, 0, 0]);
-    add_refused(&full_book(), 5, [SELL, 1, 8, PRICE, 100, 0, 0, 0]);
-    add_refused(&full_book(), 6, [SELL, 1, 8, PRICE + 1, 100, 0, 0, 0]);
+    add_refused(&full_book(), 4, described(SELL, 5, PRICE, "D 100"));
+    add_refused(&full_book(), 5, described(SELL, 8, PRICE, "D 100"));
+    add_refused(&full_book(), 6, described(SELL, 8, PRICE + 1, "D 100"));
 }
 
 #[test]
 fn a_minimum_not_above_the_new_size_could_trade() {
-    add_refused(&full_book(), 5, [BUY, 1, 8, PRICE + 10, 400, 0, 0, 0]);
-    add_refused(&full_book(), 6, [BUY, 1, 8, PRICE + 10, 399, 0, 0, 0]);
-    add_refused(&full_book(), 6, [BUY, 1, 8, PRICE + 9, 400, 0, 0, 0]);
-    let own_minimum = [BUY, 3, 8, PRICE + 10, 500, 450, 0, 0];
+    add_refused(&full_book(), 5, described(BUY, 8, PRICE + 10, "D 400"));
+    add_refused(&full_book(), 6, described(BUY, 8, PRICE + 10, "D 399"));
+    add_refused(&full_book(), 6, described(BUY, 8, PRICE + 9, "D 400"));
+    let own_minimum = described(BUY, 8, PRICE + 10, "M 500/450");
     add_refused(&full_book(), 5, own_minimum);
 }
 
 #[test]
 fn find_is_refused_in_this_order() {
-    assert_eq!(crate::find(&unsound_book().book, 0), (1, 0, 0));
-    assert_eq!(crate::find(&unsound_book().book, 4), (2, 0, 0));
-    assert_eq!(crate::find(&full_book().book, 4), (3, 0, 0));
-    assert_eq!(crate::find(&full_book().book, u32::MAX), (3, 0, 0));
+    assert_eq!(crate::find(&unsound_book().book, SECURITY, 0), (1, 0, 0));
+    assert_eq!(crate::find(&unsound_book().book, SECURITY, 4), (2, 0, 0));
+    assert_eq!(crate::find(&full_book().book, SECURITY, 4), (3, 0, 0));
+    assert_eq!(
+        crate::find(&full_book().book, SECURITY, u32::MAX),
+        (3, 0, 0)
+    );
 }
 
 #[test]

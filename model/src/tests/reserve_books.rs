@@ -1,15 +1,15 @@
 //! Reserve orders in a book's bytes, in add and reduce, and in the ladder.
 
-use super::desk::{add, Desk, Form};
+use super::desk::{add, reduce, take, Desk};
 use super::refusals::{add_refused, reduce_refused};
-use super::{described, Market, BUY, PRICE, SELL};
+use super::{described, Market, BUY, PRICE, SECURITY, SELL};
 use crate::book::{Order, LARGEST_SIZE, RECORD_LENGTH};
 use crate::{check, fast};
 
 /// Asserts that both models find so many orders, or the book unsound.
 fn checked(book: &[u8], expected: (u32, u32)) {
-    assert_eq!(check(book), expected);
-    assert_eq!(fast::check(book), expected);
+    assert_eq!(check(book, SECURITY), expected);
+    assert_eq!(fast::check(book, SECURITY), expected);
 }
 
 /// The first record's four bytes from a place on become this number.
@@ -28,7 +28,7 @@ fn a_reserve_order_has_these_bytes() {
         0, 0, 0, 0, 0, 0, 0x3F, 0x42, 0x0F, 0, 2, 1, 0, 0,
     ];
     assert_eq!(market.book, record);
-    assert_eq!(crate::find(&market.book, 0x0102_0304), (0, 0, 40));
+    assert_eq!(crate::find(&market.book, SECURITY, 0x0102_0304), (0, 0, 40));
 }
 
 /// What is shown is tied neither to the refresh size nor to what is hidden.
@@ -50,7 +50,7 @@ fn a_sound_reserve_order_has_these_numbers() {
     checked(&with_number(&market, 16, 1), (2, 0));
     checked(&with_number(&market, 20, 0), (0, 1));
     checked(&with_number(&market, 20, 2), (2, 0));
-    for place in 21..32 {
+    for place in 22..32 {
         let mut book = market.book.clone();
         book[place] = 1;
         checked(&book, (2, 0));
@@ -113,9 +113,10 @@ fn numbers_of_a_new_reserve_order_out_of_range_are_refused_1() {
 fn hidden_shares_and_refresh_sizes_of_other_kinds_are_refused_1() {
     let market = Market::of_sells("D 100");
     for order in ["D 100", "H 100", "M 100/40"] {
-        let [side, kind, number, price, size, minimum, _, _] = described(SELL, 2, PRICE, order);
+        let numbers = described(SELL, 2, PRICE, order);
         for [hidden, refresh] in [[5, 0], [0, 5], [0, 100], [250, 100]] {
-            let wrong = [side, kind, number, price, size, minimum, hidden, refresh];
+            let mut wrong = numbers;
+            wrong[6..8].copy_from_slice(&[hidden, refresh]);
             add_refused(&market, 1, wrong);
         }
     }
@@ -189,8 +190,8 @@ fn reduced(order: &str, reductions: &[u32]) -> Option<(u32, u32)> {
     let mut market = Market::of_sells(order);
     let mut beside = market.clone();
     for &shares in reductions {
-        assert_eq!(crate::reduce(&mut market.book, 1, shares), 0);
-        assert_eq!(fast::reduce(&mut beside.book, 1, shares), 0);
+        assert_eq!(market.reduce(1, shares), 0);
+        assert_eq!(fast::reduce(&mut beside.book, SECURITY, 1, shares), 0);
     }
     assert_eq!(market.book, beside.book);
     let orders = market.orders();
@@ -212,7 +213,7 @@ fn reduce_takes_hidden_shares_first() {
     }
     assert_eq!(reduced(order, &[350]), None);
     let mut market = Market::of_sells(order);
-    assert_eq!(crate::reduce(&mut market.book, 1, 260), 0);
+    assert_eq!(market.reduce(1, 260), 0);
     let [before, after] = [Market::of_sells(order), market].map(|market| market.orders()[0]);
     let kind = crate::book::Kind::Reserve {
         hidden: 0,
@@ -254,8 +255,8 @@ fn a_ladder_counts_a_reserve_order_once() {
     desk.accept(add(SELL, 1, PRICE, "R 100+250/100"), &[row(100, 250, 1)]);
     desk.accept(add(SELL, 2, PRICE, "R 50+0/50"), &[row(150, 250, 2)]);
     desk.accept(add(SELL, 3, PRICE, "M 70/70"), &[row(150, 320, 3)]);
-    desk.accept(Form::Reduce([1, 260]), &[row(140, 70, 3)]);
-    desk.accept(Form::Reduce([1, 90]), &[row(50, 70, 2)]);
+    desk.accept(reduce(1, 260), &[row(140, 70, 3)]);
+    desk.accept(reduce(1, 90), &[row(50, 70, 2)]);
 }
 
 /// Shares that a refresh shows move from one column to the other.
@@ -267,7 +268,7 @@ fn a_ladder_is_kept_when_orders_are_refreshed() {
         (SELL, PRICE + 1, "R 60+20/60"),
     ]);
     let next = [SELL, PRICE + 1, 60, 20, 1];
-    let buy = |size| Form::Take([BUY, PRICE + 1, size, 2]);
+    let buy = |size| take(BUY, PRICE + 1, size, 2);
     desk.accept(buy(500), &[[SELL, PRICE, 100, 50, 1], next]);
     desk.accept(buy(100), &[[SELL, PRICE, 50, 0, 1], next]);
     desk.accept(buy(110), &[[SELL, PRICE + 1, 20, 0, 1]]);
@@ -284,5 +285,5 @@ fn a_ladder_counts_256_reserve_orders() {
     let all = 256 * LARGEST_SIZE;
     let fewer = [BUY, PRICE, all, all - LARGEST_SIZE, 256];
     let mut desk = Desk::of(market);
-    desk.accept(Form::Take([SELL, PRICE, LARGEST_SIZE, 1]), &[fewer]);
+    desk.accept(take(SELL, PRICE, LARGEST_SIZE, 1), &[fewer]);
 }

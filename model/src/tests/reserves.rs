@@ -3,7 +3,7 @@
 
 use super::executions::{at_price, TAKES};
 use super::refusals::take_refused;
-use super::{Market, BUY, PRICE, SELL};
+use super::{Market, BUY, PRICE, SECURITY, SELL};
 use crate::book::Order;
 use crate::Execution;
 
@@ -23,7 +23,8 @@ fn buy(market: &Market, size: u32, algorithm: u32, fills: &[(u8, u32, u32)], res
     for take in TAKES {
         let mut after = market.clone();
         let Market { book, executions } = &mut after;
-        let taken = take(book, executions, BUY, PRICE, size, algorithm);
+        let incoming = [BUY, PRICE, size, algorithm, SECURITY];
+        let taken = take(book, executions, incoming);
         assert_eq!(taken, (0, fills.len() as u32, size - executed));
         assert_eq!(crate::read_executions(executions, taken.1), expected);
         let orders: Vec<Rest> = after.orders().iter().map(rest).collect();
@@ -219,7 +220,8 @@ fn incoming_sells_meet_reserve_buys_alike() {
                 mut book,
                 mut executions,
             } = market.clone();
-            let taken = take(&mut book, &mut executions, incoming, PRICE, 600, 2);
+            let numbers = [incoming, PRICE, 600, 2, SECURITY];
+            let taken = take(&mut book, &mut executions, numbers);
             assert_eq!(taken, (0, 3, 0));
             assert_eq!(crate::read_executions(&executions, 3), expected);
         }

@@ -66,6 +66,6 @@ fn a_partly_filled_setter_keeps_its_mark() {
 #[test]
 fn a_setter_below_a_lot_has_no_guarantee_in_paragraph_3() {
     let mut market = Market::of_sells("D 150, D 80");
-    assert_eq!(crate::reduce(&mut market.book, 1, 90), 0);
+    assert_eq!(market.reduce(1, 90), 0);
     assert_eq!(market.shares_of_buy(50, 3), [0, 50]);
 }

@@ -11,17 +11,17 @@ use model::LADDER_LENGTH;
 /// Records of a small book.
 const RECORDS: usize = 7;
 
-/// An order of each kind, of both sides, two of them marked, with a free record
-/// behind.
+/// An order of each kind, of both sides and both securities, with a free record
+/// behind. Three are marked, two of them at one price.
 fn small_book() -> Vec<u8> {
     let mut book = vec![0; RECORDS * RECORD_LENGTH];
     let orders = [
-        [2, 4, 0x0102_0304, 100_100, 600, 0, 70_000, 600],
-        [2, 1, 0x0102_0305, 100_000, 300, 0, 0, 0],
-        [2, 2, 0x0102_0306, 100_000, 50, 0, 0, 0],
-        [2, 3, 0x0102_0307, 100_000, 400, 300, 0, 0],
-        [2, 4, 0x0102_0308, 100_000, 100, 0, 30, 100],
-        [1, 2, 0x0102_0309, 99_900, 70_000, 0, 0, 0],
+        [2, 4, 0x0102_0304, 100_100, 600, 0, 70_000, 600, 0],
+        [2, 1, 0x0102_0305, 100_000, 300, 0, 0, 0, 0],
+        [2, 2, 0x0102_0306, 100_000, 50, 0, 0, 0, 1],
+        [2, 3, 0x0102_0307, 100_000, 400, 300, 0, 0, 0],
+        [2, 4, 0x0102_0308, 100_000, 100, 0, 30, 100, 1],
+        [1, 2, 0x0102_0309, 99_900, 70_000, 0, 0, 0, 0],
     ];
     for order in orders {
         assert_eq!(model::add(&mut book, order), 0, "the book can be made");
@@ -31,30 +31,35 @@ fn small_book() -> Vec<u8> {
 
 /// A call of each kind that looks at the whole book.
 const CALLS: [Call; 3] = [
-    Call::Check,
-    Call::Reduce([0x0102_0308, 50]),
-    Call::Take([1, 100_100, 1_600, 3]),
+    Call::Check([0]),
+    Call::Reduce([1, 0x0102_0308, 50]),
+    Call::Take([1, 100_100, 1_600, 3, 0]),
 ];
 
-/// A form of each kind that is accepted with the book's own ladder.
+/// A form of each kind that is accepted with the ladder of security 0.
 const FORMS: [Call; 3] = [
-    Call::AddLadder([2, 4, 0x0102_030A, 100_000, 100, 0, 40, 100]),
-    Call::ReduceLadder([0x0102_0308, 50]),
-    Call::TakeLadder([1, 100_100, 1_600, 3]),
+    Call::AddLadder([2, 4, 0x0102_030A, 100_000, 100, 0, 40, 100, 0]),
+    Call::ReduceLadder([0, 0x0102_0304, 50]),
+    Call::TakeLadder([1, 100_100, 1_600, 3, 0]),
 ];
 
-/// The small book's ladder has three rows. Up to the end of the one behind them
+/// That ladder has three rows. Up to the end of the one behind them
 /// each byte is made every other value, and further on these.
 const EVERY_VALUE: usize = 4 * ROW_LENGTH;
 const SOME_VALUES: [u8; 4] = [1, 0x4C, 0x80, 0xFF];
 
 /// The small book in this form, with each reserve order as a displayed one of what
-/// it shows.
+/// it shows, and those of security 1 without marks as of security 0.
 fn small_book_in(form: Form) -> Vec<u8> {
     let orders = book::read(&small_book()).expect("a sound book");
-    let shown: Vec<Order> = orders.iter().map(|order| order.parts()[0]).collect();
+    let told = |order: &Order| Order {
+        security: 0,
+        setter: order.setter && order.security == 0,
+        ..order.parts()[0]
+    };
+    let orders: Vec<Order> = orders.iter().map(told).collect();
     let mut book = vec![0; RECORDS * form.record_length()];
-    book::write_in(form, &mut book, &shown);
+    book::write_in(form, &mut book, &orders);
     book
 }
 
@@ -148,7 +153,7 @@ pub fn targets(maker: &mut Maker) -> Result<(), String> {
 pub fn ladders(maker: &mut Maker) -> Result<(), String> {
     let book = small_book();
     let mut ladder = vec![0; LADDER_LENGTH];
-    assert_eq!(model::ladder(&book, &mut ladder), 0, "the book is sound");
+    assert_eq!(model::ladder(&book, &mut ladder, 0), 0, "a sound book");
     let mut forms = FORMS.iter().cycle();
     for place in 0..LADDER_LENGTH {
         let values: Vec<u8> = match place {

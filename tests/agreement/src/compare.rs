@@ -75,23 +75,23 @@ pub fn by_model(entry: &Entry) -> Outcome {
     let ladder = &mut after.ladder;
     let target = &mut after.target;
     after.numbers = match entry.call {
-        Call::Check => {
-            let (refusal, orders) = model::check(book);
+        Call::Check([security]) => {
+            let (refusal, orders) = model::check(book, security);
             [refusal as usize, orders as usize, 0]
         }
-        Call::Find([number]) => {
-            let (refusal, start, length) = model::find(book, number);
+        Call::Find([security, number]) => {
+            let (refusal, start, length) = model::find(book, security, number);
             [refusal as usize, start, length]
         }
         Call::Add(numbers) => only(model::add(book, numbers)),
-        Call::Reduce([number, shares]) => only(model::reduce(book, number, shares)),
-        Call::Take([side, limit, size, algorithm]) => {
-            all(model::take(book, executions, side, limit, size, algorithm))
+        Call::Reduce([security, number, shares]) => {
+            only(model::reduce(book, security, number, shares))
         }
-        Call::Ladder => only(model::ladder(book, ladder)),
+        Call::Take(numbers) => all(model::take(book, executions, numbers)),
+        Call::Ladder([security]) => only(model::ladder(book, ladder, security)),
         Call::AddLadder(numbers) => only(model::add_ladder(book, ladder, numbers)),
-        Call::ReduceLadder([number, shares]) => {
-            only(model::reduce_ladder(book, ladder, number, shares))
+        Call::ReduceLadder([security, number, shares]) => {
+            only(model::reduce_ladder(book, ladder, security, number, shares))
         }
         Call::TakeLadder(numbers) => all(model::take_ladder(book, executions, ladder, numbers)),
         Call::ToNew => only(model::to_new(book, target)),
@@ -139,6 +139,11 @@ impl Borrower {
         Ok(model)
     }
 
+    /// The library's outcome of a call that nothing is expected of, or a word as below.
+    pub fn by_library(&mut self, entry: &Entry) -> Result<Outcome, String> {
+        self.outcome(entry, &entry.book, Edge::End, false)
+    }
+
     /// The library's outcome, or a word on bytes beside a buffer that changed. The
     /// book should have these bytes then.
     fn outcome(
@@ -184,21 +189,29 @@ impl Loans<'_> {
         let ladder = self.ladder.bytes();
         let target = self.target.bytes();
         match call {
-            Call::Check if read_only => book.read_only(library::check),
-            Call::Check => library::check(book.bytes()),
-            Call::Find([number]) if read_only => book.read_only(|book| library::find(book, number)),
-            Call::Find([number]) => library::find(book.bytes(), number),
+            Call::Check([security]) if read_only => {
+                book.read_only(|book| library::check(book, security))
+            }
+            Call::Check([security]) => library::check(book.bytes(), security),
+            Call::Find([security, number]) if read_only => {
+                book.read_only(|book| library::find(book, security, number))
+            }
+            Call::Find([security, number]) => library::find(book.bytes(), security, number),
             Call::Add(numbers) => library::add(book.bytes(), numbers),
-            Call::Reduce([number, shares]) => library::reduce(book.bytes(), number, shares),
+            Call::Reduce([security, number, shares]) => {
+                library::reduce(book.bytes(), security, number, shares)
+            }
             Call::Take(numbers) if read_only => {
                 book.keeping(after, |book| library::take(book, executions, numbers))
             }
             Call::Take(numbers) => library::take(book.bytes(), executions, numbers),
-            Call::Ladder if read_only => book.read_only(|book| library::ladder(book, ladder)),
-            Call::Ladder => library::ladder(book.bytes(), ladder),
+            Call::Ladder([security]) if read_only => {
+                book.read_only(|book| library::ladder(book, ladder, security))
+            }
+            Call::Ladder([security]) => library::ladder(book.bytes(), ladder, security),
             Call::AddLadder(numbers) => library::add_ladder(book.bytes(), ladder, numbers),
-            Call::ReduceLadder([number, shares]) => {
-                library::reduce_ladder(book.bytes(), ladder, number, shares)
+            Call::ReduceLadder([security, number, shares]) => {
+                library::reduce_ladder(book.bytes(), ladder, security, number, shares)
             }
             Call::TakeLadder(numbers) if read_only => book.keeping(after, |book| {
                 library::take_ladder(book, executions, ladder, numbers)
@@ -251,7 +264,7 @@ pub fn compare(entry: &Entry, model: &Outcome, library: &Outcome) -> Result<(), 
 }
 
 /// The call and the bytes at its entry.
-fn describe(entry: &Entry) -> String {
+pub fn describe(entry: &Entry) -> String {
     format!(
         "call: {:?}\nbook at entry, {} bytes:\n{}executions buffer of {} bytes\n\
          ladder at entry, {} bytes:\n{}target of {} bytes\n",

@@ -105,7 +105,8 @@ fn target_length(random: &mut Random, book: &Book) -> usize {
 }
 
 /// Turns what became of a book back into a target of the book's length: it has to
-/// become the same book, and in the new form it has the same number of orders.
+/// become the same book, and in the new form it has the same number of orders, all of
+/// security 0.
 fn turn_back(
     maker: &mut Maker,
     entry: &Entry,
@@ -127,7 +128,7 @@ fn turn_back(
         Form::Old => back.book,
         Form::New => returned.target,
     };
-    let checked = maker.make(&Entry::of(Call::Check, new), lending)?;
+    let checked = maker.make(&Entry::of(Call::Check([0]), new), lending)?;
     if checked.numbers != [0, orders, 0] {
         return Err(String::from("there aren't as many orders as before"));
     }

@@ -1,6 +1,6 @@
 //! The groups of rounds that a run has.
 
-use crate::calls::Caller;
+use crate::caller::Caller;
 use crate::rounds::Group;
 use books::{Making, Shape, Sizes};
 use model::book::Side;

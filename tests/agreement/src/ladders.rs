@@ -1,9 +1,9 @@
-//! The ladder that a round keeps beside its book from call to call, and the
-//! wrong ladders that it lends now and then instead.
+//! The ladders of both securities that a round keeps beside its book from call to
+//! call, and the wrong ladders that it lends now and then instead.
 
 use crate::calls::Call;
 use crate::compare::{self, Entry, Outcome};
-use model::book::MOST_ORDERS;
+use model::book::{self, Order, MOST_ORDERS, RECORD_LENGTH, SECURITIES};
 use model::ladder::ROW_LENGTH;
 use model::{EXECUTION_LENGTH, LADDER_LENGTH};
 use support::Random;
@@ -11,6 +11,7 @@ use support::Random;
 /// What a wrong ladder is made for.
 pub struct Scene<'a> {
     call: Call,
+    security: u32,
     book: &'a [u8],
     /// The ladder that was kept before the last change.
     former: &'a [u8],
@@ -21,7 +22,7 @@ pub struct Scene<'a> {
 type Wrong = fn(&mut Random, &mut Vec<u8>, usize, &Scene);
 
 /// Every kind of wrong ladder with its name and refusal number.
-pub const WRONG_LADDERS: [(&str, usize, Wrong); 22] = [
+pub const WRONG_LADDERS: [(&str, usize, Wrong); 24] = [
     ("no bytes", 9, |_, ladder, _, _| ladder.clear()),
     ("one row", 9, |_, ladder, _, _| ladder.truncate(ROW_LENGTH)),
     ("the rows in use alone", 9, |_, ladder, rows, _| {
@@ -104,7 +105,13 @@ pub const WRONG_LADDERS: [(&str, usize, Wrong); 22] = [
         ladder.copy_from_slice(scene.former);
     }),
     ("as after the call", 10, |_, ladder, _, scene| {
-        model::ladder(&scene.book_afterwards(), ladder);
+        model::ladder(&scene.book_afterwards(), ladder, scene.security);
+    }),
+    ("the other security's", 10, |_, ladder, _, scene| {
+        model::ladder(scene.book, ladder, 1 - scene.security);
+    }),
+    ("of both securities' orders", 10, |_, ladder, _, scene| {
+        model::ladder(&scene.book_of_one_security(), ladder, 0);
     }),
 ];
 
@@ -116,6 +123,20 @@ impl Scene<'_> {
             ..Entry::of(self.call.plain(), self.book.to_vec())
         };
         compare::by_model(&entry).book
+    }
+
+    /// The book with every order as one of security 0, without marks.
+    fn book_of_one_security(&self) -> Vec<u8> {
+        let orders = book::read(self.book).unwrap_or_default();
+        let of_one = |order: &Order| Order {
+            security: 0,
+            setter: false,
+            ..*order
+        };
+        let orders: Vec<Order> = orders.iter().map(of_one).collect();
+        let mut book = vec![0; orders.len() * RECORD_LENGTH];
+        book::write(&mut book, &orders);
+        book
     }
 }
 
@@ -154,41 +175,58 @@ pub struct Lent {
     pub wrong: Option<(&'static str, usize)>,
 }
 
-/// The ladder of a round.
-pub struct Keeper {
-    kept: Vec<u8>,
+/// The ladder of a security in a round.
+struct Kept {
+    bytes: Vec<u8>,
     former: Vec<u8>,
     /// Whether the ladder was made of the very book that the calls are made on.
     is_own: bool,
 }
 
+/// The ladders of a round, by security.
+pub struct Keeper {
+    ladders: [Kept; SECURITIES as usize],
+    /// The security of the last form that was accepted.
+    last: Option<usize>,
+}
+
 impl Keeper {
-    /// Begins with the ladder of a sound book, which may be spoilt afterwards.
+    /// Begins with the ladders of a sound book, which may be spoilt afterwards.
     pub fn new(book: &[u8]) -> Keeper {
-        let mut kept = vec![0; LADDER_LENGTH];
-        assert_eq!(model::ladder(book, &mut kept), 0, "a sound book");
+        let ladders = [0, 1].map(|security| {
+            let mut bytes = vec![0; LADDER_LENGTH];
+            let refusal = model::ladder(book, &mut bytes, security);
+            assert_eq!(refusal, 0, "a sound book");
+            Kept {
+                former: vec![0; LADDER_LENGTH],
+                bytes,
+                is_own: false,
+            }
+        });
         Keeper {
-            former: vec![0; LADDER_LENGTH],
-            kept,
-            is_own: false,
+            ladders,
+            last: None,
         }
     }
 
-    /// The ladder for a call on a book: mostly the one that is kept. Calls that
-    /// have no ladder are lent none.
+    /// The ladder for a call on a book: mostly the one that is kept for its security.
+    /// Calls that have no ladder are lent none.
     pub fn lend(&self, random: &mut Random, call: Call, book: &[u8]) -> Lent {
         let mut bytes = Vec::new();
         let mut wrong = None;
-        if call.is_form() || call == Call::Ladder {
-            bytes = self.kept.clone();
-            if random.once_in(if call == Call::Ladder { 2 } else { 4 }) {
+        if call.has_ladder() {
+            let security = security_of(call).unwrap_or(0);
+            let kept = &self.ladders[security];
+            bytes.clone_from(&kept.bytes);
+            if random.once_in(if call.is_form() { 4 } else { 2 }) {
                 let (name, refusal, make_wrong) = random.one_of(&WRONG_LADDERS);
                 let scene = Scene {
                     call,
+                    security: security as u32,
                     book,
-                    former: &self.former,
+                    former: &kept.former,
                 };
-                make_wrong(random, &mut bytes, rows_in_use(&self.kept), &scene);
+                make_wrong(random, &mut bytes, rows_in_use(&kept.bytes), &scene);
                 wrong = Some((name, refusal));
             }
         }
@@ -196,18 +234,33 @@ impl Keeper {
     }
 
     /// Keeps what an accepted call left. A new ladder may not be another than the
-    /// one that was kept all along.
-    pub fn keep(&mut self, entry: &Entry, outcome: &Outcome) -> Result<(), String> {
+    /// one that was kept all along. Says whether a form of the other security was
+    /// accepted before this one.
+    pub fn keep(&mut self, entry: &Entry, outcome: &Outcome) -> Result<bool, String> {
+        let Some(security) = security_of(entry.call) else {
+            return Ok(false);
+        };
         if outcome.refusal() != 0 || outcome.ladder.is_empty() {
-            return Ok(());
+            return Ok(false);
         }
-        if entry.call == Call::Ladder && self.is_own && outcome.ladder != self.kept {
+        let kept = &mut self.ladders[security];
+        if !entry.call.is_form() && kept.is_own && outcome.ladder != kept.bytes {
             return Err(String::from("the ladder that was kept isn't the new one"));
         }
-        self.is_own = true;
-        if outcome.ladder != self.kept {
-            self.former = std::mem::replace(&mut self.kept, outcome.ladder.clone());
+        kept.is_own = true;
+        if outcome.ladder != kept.bytes {
+            kept.former = std::mem::replace(&mut kept.bytes, outcome.ladder.clone());
         }
-        Ok(())
+        let in_turn = self.last == Some(1 - security);
+        if entry.call.is_form() {
+            self.last = Some(security);
+        }
+        Ok(in_turn)
     }
+}
+
+/// The security that a call names, if there is such a one.
+fn security_of(call: Call) -> Option<usize> {
+    let security = call.security().filter(|&security| security < SECURITIES);
+    security.map(|security| security as usize)
 }

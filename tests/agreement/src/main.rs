@@ -1,10 +1,12 @@
 //! Compares the library with the model: random books and calls, every returned
-//! number and every byte of the lent buffers, refused calls too.
+//! number and every byte of the lent buffers, refused calls too. And holds the library
+//! to itself where two books have the same records of a security.
 //!
 //! `agreement [ROUNDS [FIRST SEED]]` has so many rounds in each group. One round
 //! from a seed that was named for a difference repeats it.
 
 mod bytewise;
+mod caller;
 mod calls;
 mod compare;
 mod conversions;
@@ -12,6 +14,7 @@ mod groups;
 mod guarded;
 mod ladders;
 mod maker;
+mod pairs;
 mod rounds;
 mod selfcheck;
 mod tally;
@@ -58,6 +61,9 @@ fn run(rounds: u64, first: u64) -> ExitCode {
         report.check(group.name, group.run(seeds.clone(), &mut maker));
     }
     for group in conversions::all() {
+        report.check(group.name, group.run(seeds.clone(), &mut maker));
+    }
+    for group in pairs::all() {
         report.check(group.name, group.run(seeds.clone(), &mut maker));
     }
     run_bytewise(&mut report, &mut maker);

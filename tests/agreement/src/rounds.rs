@@ -1,7 +1,8 @@
 //! Rounds. A round makes a book from its seed and has a row of calls on it, each
 //! by the model and by the library.
 
-use crate::calls::{Call, Caller};
+use crate::caller::Caller;
+use crate::calls::Call;
 use crate::compare::{self, Entry, Lending};
 use crate::guarded::{self, Edge};
 use crate::ladders::Keeper;
@@ -59,8 +60,11 @@ impl Group {
             };
             let lending = lending(seed, &mut random);
             let outcome = maker.make(&entry, lending)?;
-            keeper.keep(&entry, &outcome)?;
+            let in_turn = keeper.keep(&entry, &outcome)?;
             let coverage = &mut maker.coverage;
+            if in_turn {
+                coverage.note(tally::securities::kept_in_turn(call));
+            }
             if lending.read_only {
                 tally::note_kept(coverage, &entry, &outcome);
             }
@@ -112,7 +116,7 @@ pub fn lending(seed: u64, random: &mut Random) -> Lending {
 
 /// A buffer for the executions of a take, of random bytes: exactly long enough,
 /// or a little or much shorter or longer. Other calls have none.
-fn executions_buffer(random: &mut Random, call: Call, book: &[u8]) -> Vec<u8> {
+pub fn executions_buffer(random: &mut Random, call: Call, book: &[u8]) -> Vec<u8> {
     if !matches!(call.plain(), Call::Take(_)) {
         return Vec::new();
     }

@@ -1,6 +1,8 @@
 //! Checks of the test itself: that a touched byte is fatal, and that a
 //! difference is seen.
 
+mod pairs;
+
 use crate::calls::Call;
 use crate::compare::{self, Borrower, Entry, Lending, Outcome};
 use crate::guarded::{self, Edge, Lender};
@@ -87,16 +89,16 @@ fn sample() -> Entry {
     let mut book = vec![0; 3 * RECORD_LENGTH];
     let mut ladder = vec![0; LADDER_LENGTH];
     for order in [
-        [2, 4, 1, 100_000, 600, 0, 900, 600],
-        [2, 1, 2, 100_000, 400, 0, 0, 0],
-        [2, 1, 3, 100_000, 300, 0, 0, 0],
+        [2, 4, 2, 100_000, 600, 0, 900, 600, 0],
+        [2, 1, 4, 100_000, 400, 0, 0, 0, 0],
+        [2, 1, 6, 100_000, 300, 0, 0, 0, 0],
     ] {
         model::add_ladder(&mut book, &mut ladder, order);
     }
     Entry {
         executions: vec![0x5A; 80],
         ladder,
-        ..Entry::of(Call::TakeLadder([1, 100_000, 1_400, 2]), book)
+        ..Entry::of(Call::TakeLadder([1, 100_000, 1_400, 2, 0]), book)
     }
 }
 
@@ -119,7 +121,7 @@ fn turnings() -> [Entry; 2] {
         ..Entry::of(Call::ToOld, book)
     };
     let mut refused = accepted.clone();
-    refused.book[21] = 1;
+    refused.book[22] = 1;
     [accepted, refused]
 }
 
@@ -218,6 +220,7 @@ pub fn run(report: &mut Report, borrower: &mut Borrower) {
     }
     let ladder = is_lent(borrower, takes(), 10);
     report.check("a ladder is lent and looked at", ladder);
+    pairs::run(report, borrower);
     let target = is_lent(borrower, turnings(), 2);
     report.check("a target is lent and looked at", target);
     for watched in WATCHED {

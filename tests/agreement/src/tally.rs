@@ -5,9 +5,12 @@ mod divisions;
 mod groups;
 mod ladders;
 mod leaving;
+pub mod pairs;
 mod paragraphs;
 mod reserve_entries;
 mod reserves;
+pub mod securities;
+mod security_takes;
 mod setters;
 mod takes;
 
@@ -16,18 +19,18 @@ use crate::compare::{Entry, Outcome};
 use crate::guarded;
 use crate::ladders::WRONG_LADDERS;
 use books::damage;
-use model::book::{self, Form, Order, Side, LONGEST_BOOK, MOST_ORDERS};
+use model::book::{self, Form, Order, LONGEST_BOOK, MOST_ORDERS};
 use support::Coverage;
 use takes::Take;
 
 /// The calls and the refusals that each can have.
 const REFUSALS: [(&str, &[usize]); 11] = [
-    ("check", &[2]),
+    ("check", &[1, 2]),
     ("find", &[1, 2, 3]),
     ("add", &[1, 2, 4, 5, 6]),
     ("reduce", &[1, 2, 3, 7]),
     ("take", &[1, 2, 8]),
-    ("ladder", &[2, 9]),
+    ("ladder", &[1, 2, 9]),
     ("add_ladder", &[1, 2, 9, 10, 4, 5, 6]),
     ("reduce_ladder", &[1, 2, 9, 10, 3, 7]),
     ("take_ladder", &[1, 2, 9, 10, 8]),
@@ -75,8 +78,11 @@ pub fn expected() -> Coverage {
     leaving::expect(&mut coverage);
     reserves::expect(&mut coverage);
     reserve_entries::expect(&mut coverage);
+    securities::expect(&mut coverage);
+    security_takes::expect(&mut coverage);
     ladders::expect(&mut coverage);
     conversions::expect(&mut coverage);
+    pairs::expect(&mut coverage);
     for call in ["take", "take_ladder"] {
         for pages in [FIRST_KEPT, LAST_KEPT, ALL_KEPT] {
             coverage.expect(kept(call, pages));
@@ -115,9 +121,9 @@ pub fn note(coverage: &mut Coverage, entry: &Entry, outcome: &Outcome) {
         conversions::note(coverage, entry, outcome.refusal());
         return;
     }
-    let has_ladder = entry.call.is_form() || entry.call == Call::Ladder;
     if outcome.refusal() != 0 {
-        if has_ladder {
+        securities::note_refused(coverage, entry, outcome.refusal());
+        if entry.call.has_ladder() {
             ladders::note_refused(coverage, entry, outcome);
         }
         match outcome.refusal() {
@@ -126,15 +132,16 @@ pub fn note(coverage: &mut Coverage, entry: &Entry, outcome: &Outcome) {
         }
         return;
     }
-    note_accepted(coverage, entry, outcome, has_ladder);
+    note_accepted(coverage, entry, outcome);
 }
 
-/// Notes an accepted call on a book, which may be lent a ladder.
-fn note_accepted(coverage: &mut Coverage, entry: &Entry, outcome: &Outcome, has_ladder: bool) {
+/// Notes an accepted call on a book.
+fn note_accepted(coverage: &mut Coverage, entry: &Entry, outcome: &Outcome) {
     let before = book::read(&entry.book).expect("an accepted call has a sound book");
     let after = book::read(&outcome.book).expect("an accepted call leaves a sound book");
     note_book(coverage, entry, &before);
-    if has_ladder {
+    securities::note_accepted(coverage, entry, [&before, &after]);
+    if entry.call.has_ladder() {
         ladders::note_accepted(coverage, entry, outcome, [&before, &after]);
     }
     match entry.call.plain() {
@@ -143,18 +150,21 @@ fn note_accepted(coverage: &mut Coverage, entry: &Entry, outcome: &Outcome, has_
             coverage.note_if(marked, "add that set a setter mark");
             reserve_entries::note_add(coverage, entry, [&before, &after]);
         }
-        Call::Reduce([number, shares]) => {
+        Call::Reduce([_, number, shares]) => {
             note_reduce(coverage, number, &before, &after);
+            security_takes::note_left(coverage, entry, [&before, &after]);
             reserve_entries::note_reduce(coverage, entry.call.name(), number, shares, &before);
         }
         Call::Take(_) => {
             let take = Take::new(entry, outcome, &before);
-            take.note(coverage);
+            take.note(coverage, after.len());
             paragraphs::note(coverage, &take, &before);
             divisions::note(coverage, &take);
             setters::note(coverage, entry, &before, &take);
             leaving::note(coverage, entry, &take, [&before, &after]);
             reserves::note(coverage, entry, &take, [&before, &after]);
+            security_takes::note_left(coverage, entry, [&before, &after]);
+            security_takes::note_take(coverage, entry, &take, &before);
         }
         _ => {}
     }
@@ -184,15 +194,10 @@ pub fn note_kept(coverage: &mut Coverage, entry: &Entry, outcome: &Outcome) {
 
 fn note_book(coverage: &mut Coverage, entry: &Entry, orders: &[Order]) {
     let full = orders.len() == MOST_ORDERS;
-    let prices = |side: Side| {
-        let orders = orders.iter().filter(move |order| order.side == side);
-        orders.map(|order| order.price)
-    };
-    let overlap =
-        prices(Side::Buy).max() >= prices(Side::Sell).min() && prices(Side::Sell).min().is_some();
+    let overlap = [0, 1].map(|security| securities::overlap(orders, [security; 2]));
     coverage.note_if(entry.book.is_empty(), "book of length 0");
     coverage.note_if(full, "full book of 256 orders");
-    coverage.note_if(overlap, "book whose sides overlap");
+    coverage.note_if(overlap != [false; 2], "book whose sides overlap");
     let marked = |order: &Order| order.setter && reserves::is_reserve(order);
     let marked = orders.iter().any(marked);
     coverage.note_if(marked, "book with a marked reserve order");

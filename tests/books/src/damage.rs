@@ -12,6 +12,7 @@ const PRICE: usize = 8;
 const SIZE: usize = 12;
 const MINIMUM: usize = 16;
 const SETTER: usize = 20;
+const SECURITY: usize = 21;
 const HIDDEN: usize = 32;
 const REFRESH: usize = 36;
 
@@ -31,7 +32,7 @@ pub fn all(form: Form) -> Vec<(&'static str, Damage)> {
     [&TO_BOTH_FORMS, others].concat()
 }
 
-const TO_BOTH_FORMS: [(&str, Damage); 24] = [
+const TO_BOTH_FORMS: [(&str, Damage); 25] = [
     ("one byte changed", |random, book| {
         let used = book.used();
         change_a_byte(random, &mut book.bytes[..used]);
@@ -69,9 +70,12 @@ const TO_BOTH_FORMS: [(&str, Damage); 24] = [
     ("numbers that do not rise", |random, book| {
         stop_rising(random, book);
     }),
-    ("two setters of a side and price", |random, book| {
-        mark_two(random, book);
-    }),
+    (
+        "two setters of a security, side and price",
+        |random, book| {
+            mark_two(random, book);
+        },
+    ),
     ("a wrong mark", |random, book| {
         in_record(random, book, any, |random, record| {
             record[random.below(2)] = random.one_of(&[0, 0x44, 0x4E, 0xFF]);
@@ -139,9 +143,14 @@ const TO_BOTH_FORMS: [(&str, Damage); 24] = [
         let hidden = |order: &Order| !order.is_displayed();
         in_record(random, book, hidden, |_, record| record[SETTER] = 1);
     }),
-    ("a byte behind the setter mark", |random, book| {
+    ("a byte behind the security", |random, book| {
         in_record(random, book, any, |random, record| {
-            record[random.within(21..=31) as usize] = random.one_of(&[1, 2, 128, 255]);
+            record[random.within(22..=31) as usize] = random.one_of(&[1, 2, 128, 255]);
+        });
+    }),
+    ("no security", |random, book| {
+        in_record(random, book, any, |random, record| {
+            record[SECURITY] = random.one_of(&[2, 3, 128, 255]);
         });
     }),
 ];
@@ -151,8 +160,8 @@ const TO_OLD_FORM: [(&str, Damage); 2] = [
     ("kind 4", |random, book| {
         in_record(random, book, has_no_minimum, |_, record| record[KIND] = 4);
     }),
-    ("byte 21", |random, book| {
-        in_record(random, book, any, |_, record| record[21] = 1);
+    ("security 1", |random, book| {
+        in_record(random, book, any, |_, record| record[SECURITY] = 1);
     }),
 ];
 
@@ -254,7 +263,7 @@ fn stop_rising(random: &mut Random, book: &mut Book) {
     }
 }
 
-/// Makes two displayed orders setters of one side and price.
+/// Makes two displayed orders setters of one security, side and price.
 fn mark_two(random: &mut Random, book: &mut Book) {
     let displayed = places(&book.orders, Order::is_displayed);
     if displayed.len() > 1 {
@@ -264,6 +273,7 @@ fn mark_two(random: &mut Random, book: &mut Book) {
         for place in [displayed[first], displayed[second]] {
             let marked = record(book, place);
             marked[SIDE] = pattern.side as u8;
+            marked[SECURITY] = pattern.security as u8;
             set_number(marked, PRICE, pattern.price);
             marked[SETTER] = 1;
         }

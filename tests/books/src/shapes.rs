@@ -49,6 +49,8 @@ pub struct Shape {
     pub always_hides: bool,
     /// The sides that orders have, one as often as the other.
     pub sides: [Side; 2],
+    /// How often orders of each security come, at the same prices.
+    pub securities: [usize; 2],
     /// Whether buys and sells have the same prices, or meet at one at most.
     pub overlap: bool,
     /// The lowest price of a buy, and the distance of two prices.
@@ -80,19 +82,27 @@ impl Shape {
             kinds,
             always_hides: false,
             sides: [Side::Buy, Side::Sell],
+            securities: random.one_of(&[[1, 0], [0, 1], [1, 1], [1, 1], [6, 1]]),
             overlap: random.once_in(3),
             lowest: random.one_of(&[1, 100_000, highest]),
             step,
         }
     }
 
-    /// A shape of the kinds that this form can tell, the rest by chance.
+    /// A shape of the kinds and securities that this form can tell, the rest by
+    /// chance. In the new form many have none that the old one can't tell.
     pub fn in_form(random: &mut Random, form: Form) -> Shape {
-        let kinds = match form {
-            Form::Old => [1, 1, 1, 0],
-            Form::New => [4, 4, 4, 1],
+        let (kinds, securities) = match form {
+            Form::Old => ([1, 1, 1, 0], [1, 0]),
+            Form::New => {
+                let few_of_second = random.one_of(&[[1, 0], [1, 0], [1, 0], [12, 1]]);
+                ([4, 4, 4, 1], few_of_second)
+            }
         };
-        Shape::random(random, kinds)
+        Shape {
+            securities,
+            ..Shape::random(random, kinds)
+        }
     }
 
     pub fn price(&self, random: &mut Random) -> u32 {
@@ -135,7 +145,7 @@ impl Shape {
     }
 
     /// The numbers of an order, as add takes them.
-    pub fn order(&self, random: &mut Random, number: u32) -> [u32; 8] {
+    pub fn order(&self, random: &mut Random, number: u32) -> [u32; 9] {
         let side = random.one_of(&self.sides);
         let kind = random.weighted(&self.kinds) as u32 + 1;
         let price = self.price_of_side(random, side);
@@ -150,7 +160,10 @@ impl Shape {
             _ => (0, 0, 0),
         };
         let side = side as u32;
-        [side, kind, number, price, size, minimum, hidden, refresh]
+        let security = random.weighted(&self.securities) as u32;
+        [
+            side, kind, number, price, size, minimum, hidden, refresh, security,
+        ]
     }
 
     /// What a reserve order hides that shows so many shares.
@@ -185,13 +198,19 @@ impl Shape {
     }
 
     /// As a built book, but some orders of a side are better priced than all its
-    /// others. The shape has several levels.
+    /// others; they may be all that there are of their security. The shape has several
+    /// levels.
     pub fn chosen_book(&self, random: &mut Random, records: usize, orders: usize) -> Vec<u8> {
         let mut placed = self.orders(random, orders);
         let side = random.one_of(&self.sides);
         let choice = random.one_of(&CHOICES);
+        let apart = !self.securities.contains(&0) && random.once_in(2);
         for (place, order) in placed.iter_mut().enumerate() {
-            let levels = match choice(random, place, orders) {
+            let chosen = choice(random, place, orders);
+            if apart {
+                order.security = u32::from(chosen);
+            }
+            let levels = match chosen {
                 true => {
                     order.side = side;
                     0
@@ -203,22 +222,38 @@ impl Shape {
         marked_book(random, records, placed)
     }
 
-    /// So many orders, by rising number and without marks. The refresh size of a
-    /// reserve order may be another than what it shows.
+    /// So many orders, by rising number and without marks.
     fn orders(&self, random: &mut Random, orders: usize) -> Vec<Order> {
         let mut next = random.one_of(&[1, 1_000, u32::MAX - 3 * 256]);
         let mut placed: Vec<Order> = Vec::new();
         for _ in 0..orders {
-            let order = Order::of_numbers(self.order(random, next));
-            let mut order = order.expect("numbers within their ranges");
-            if let Kind::Reserve { refresh, .. } = &mut order.kind {
-                let another = self.size(random);
-                *refresh = random.one_of(&[order.size, order.size, another, 1]);
-            }
-            placed.push(order);
+            placed.push(self.placed(random, next));
             next += random.within(1..=3);
         }
         placed
+    }
+
+    /// An order that stands in a book without a mark. The refresh size of a reserve
+    /// order may be another than what it shows.
+    fn placed(&self, random: &mut Random, number: u32) -> Order {
+        let order = Order::of_numbers(self.order(random, number));
+        let mut order = order.expect("numbers within their ranges");
+        if let Kind::Reserve { refresh, .. } = &mut order.kind {
+            let another = self.size(random);
+            *refresh = random.one_of(&[order.size, order.size, another, 1]);
+        }
+        order
+    }
+
+    /// The orders of a security that have these numbers, some of them marked.
+    pub fn of_security(&self, random: &mut Random, security: u32, numbers: &[u32]) -> Vec<Order> {
+        let order = |&number: &u32| Order {
+            security,
+            ..self.placed(random, number)
+        };
+        let mut orders: Vec<Order> = numbers.iter().map(order).collect();
+        set_marks(random, &mut orders);
+        orders
     }
 
     /// Makes room for a book in which every order has a price of its own.
@@ -263,8 +298,8 @@ fn marked_book(random: &mut Random, records: usize, mut orders: Vec<Order>) -> V
     book
 }
 
-/// Marks some displayed orders, at most one of a side and price: none, the first
-/// or the last of each, or one by chance.
+/// Marks some displayed orders, at most one of a security, side and price: none, the
+/// first or the last of each, or one by chance.
 fn set_marks(random: &mut Random, orders: &mut [Order]) {
     let once_in = random.one_of(&[0, 1, 2, 5]);
     let mut places: Vec<usize> = (0..orders.len()).collect();
@@ -280,7 +315,8 @@ fn set_marks(random: &mut Random, orders: &mut [Order]) {
     }
 }
 
-/// Whether a marked order has the side and price of another.
+/// Whether a marked order has the security, side and price of another.
 fn is_rival_setter(marked: &Order, order: &Order) -> bool {
-    marked.setter && marked.side == order.side && marked.price == order.price
+    let level = |order: &Order| (order.security, order.side, order.price);
+    marked.setter && level(marked) == level(order)
 }

@@ -12,19 +12,22 @@ const ZEROS: [usize; 28] = [
     8_224, 10_200, 10_208, 10_239, 10_240, 10_241, 10_272, 10_280, 200_000,
 ];
 
-/// Side, kind, size, minimum, hidden shares and refresh size of some orders.
-const DISPLAYED: [u32; 6] = [2, 1, 600, 0, 0, 0];
-const NON_DISPLAYED: [u32; 6] = [2, 2, 70_000, 0, 0, 0];
-const MINIMUM: [u32; 6] = [2, 3, 500, 400, 0, 0];
-const RESERVE: [u32; 6] = [2, 4, 100, 0, 250, 100];
-const RESERVE_WITHOUT_HIDDEN: [u32; 6] = [2, 4, 100, 0, 0, 100];
+/// Side, kind, size, minimum, hidden shares, refresh size and security of some orders.
+const DISPLAYED: [u32; 7] = [2, 1, 600, 0, 0, 0, 0];
+const NON_DISPLAYED: [u32; 7] = [2, 2, 70_000, 0, 0, 0, 0];
+const MINIMUM: [u32; 7] = [2, 3, 500, 400, 0, 0, 0];
+const RESERVE: [u32; 7] = [2, 4, 100, 0, 250, 100, 0];
+const RESERVE_WITHOUT_HIDDEN: [u32; 7] = [2, 4, 100, 0, 0, 100, 0];
+const OF_SECURITY_1: [u32; 7] = [2, 1, 600, 0, 0, 0, 1];
 
 /// A book of this form with so many records and these orders, of which the first
 /// is marked.
-fn book_of(form: Form, records: usize, orders: &[[u32; 6]]) -> Vec<u8> {
-    let order = |(number, numbers): (u32, &[u32; 6])| {
-        let [side, kind, size, minimum, hidden, refresh] = *numbers;
-        let numbers = [side, kind, number, 100_000, size, minimum, hidden, refresh];
+fn book_of(form: Form, records: usize, orders: &[[u32; 7]]) -> Vec<u8> {
+    let order = |(number, numbers): (u32, &[u32; 7])| {
+        let [side, kind, size, minimum, hidden, refresh, security] = *numbers;
+        let numbers = [
+            side, kind, number, 100_000, size, minimum, hidden, refresh, security,
+        ];
         let order = Order::of_numbers(numbers).expect("numbers within their ranges");
         Order {
             setter: number == 1,
@@ -48,12 +51,16 @@ pub fn fixed() -> Vec<(String, Vec<u8>)> {
         let book = book_of(form, MOST_ORDERS, &[DISPLAYED; MOST_ORDERS]);
         [book, vec![0; more]].concat()
     };
-    let mut last_reserve = [DISPLAYED; MOST_ORDERS];
-    last_reserve[MOST_ORDERS - 1] = RESERVE;
-    let last_reserve = book_of(Form::New, MOST_ORDERS, &last_reserve);
+    let full_but_last = |last| {
+        let mut orders = [DISPLAYED; MOST_ORDERS];
+        orders[MOST_ORDERS - 1] = last;
+        book_of(Form::New, MOST_ORDERS, &orders)
+    };
     let reserve = book_of(Form::New, 2, &[DISPLAYED, RESERVE]);
     let mut unsound = reserve.clone();
     unsound[31] = 1;
+    let mut of_no_security = small_book(Form::New);
+    of_no_security[21] = 2;
     let books = [
         ("a small old book", small_book(Form::Old)),
         ("a small new book", small_book(Form::New)),
@@ -69,7 +76,19 @@ pub fn fixed() -> Vec<(String, Vec<u8>)> {
             "a reserve order that hides nothing",
             book_of(Form::New, 1, &[RESERVE_WITHOUT_HIDDEN]),
         ),
-        ("a full book whose last is a reserve order", last_reserve),
+        (
+            "a full book whose last is a reserve order",
+            full_but_last(RESERVE),
+        ),
+        (
+            "an order of security 1",
+            book_of(Form::New, 1, &[OF_SECURITY_1]),
+        ),
+        (
+            "a full book whose last is of security 1",
+            full_but_last(OF_SECURITY_1),
+        ),
+        ("an order of no security", of_no_security),
     ];
     let books = books.map(|(name, bytes)| (name.to_string(), bytes));
     let zeros = ZEROS.map(|length| (format!("{length} zeros"), vec![0; length]));

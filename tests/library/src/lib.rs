@@ -33,6 +33,7 @@ struct AddRequest {
     minimum: u32,
     hidden: u32,
     refresh: u32,
+    security: u32,
 }
 
 #[repr(C)]
@@ -41,13 +42,20 @@ struct TakeRequest {
     limit: u32,
     size: u32,
     algorithm: u32,
+    security: u32,
 }
 
 extern "C" {
-    fn ruhvasto_check(book: *const u8, book_len: usize) -> Checked;
-    fn ruhvasto_find(book: *const u8, book_len: usize, number: u32) -> Found;
+    fn ruhvasto_check(book: *const u8, book_len: usize, security: u32) -> Checked;
+    fn ruhvasto_find(book: *const u8, book_len: usize, security: u32, number: u32) -> Found;
     fn ruhvasto_add(book: *mut u8, book_len: usize, request: AddRequest) -> u32;
-    fn ruhvasto_reduce(book: *mut u8, book_len: usize, number: u32, shares: u32) -> u32;
+    fn ruhvasto_reduce(
+        book: *mut u8,
+        book_len: usize,
+        security: u32,
+        number: u32,
+        shares: u32,
+    ) -> u32;
     fn ruhvasto_take(
         book: *mut u8,
         book_len: usize,
@@ -55,8 +63,13 @@ extern "C" {
         executions_len: usize,
         request: TakeRequest,
     ) -> Taken;
-    fn ruhvasto_ladder(book: *const u8, book_len: usize, ladder: *mut u8, ladder_len: usize)
-        -> u32;
+    fn ruhvasto_ladder(
+        book: *const u8,
+        book_len: usize,
+        ladder: *mut u8,
+        ladder_len: usize,
+        security: u32,
+    ) -> u32;
     fn ruhvasto_add_ladder(
         book: *mut u8,
         book_len: usize,
@@ -69,6 +82,7 @@ extern "C" {
         book_len: usize,
         ladder: *mut u8,
         ladder_len: usize,
+        security: u32,
         number: u32,
         shares: u32,
     ) -> u32;
@@ -88,8 +102,8 @@ extern "C" {
 
 impl AddRequest {
     #[inline]
-    fn of(numbers: [u32; 8]) -> AddRequest {
-        let [side, kind, number, price, size, minimum, hidden, refresh] = numbers;
+    fn of(numbers: [u32; 9]) -> AddRequest {
+        let [side, kind, number, price, size, minimum, hidden, refresh, security] = numbers;
         AddRequest {
             side,
             kind,
@@ -99,19 +113,21 @@ impl AddRequest {
             minimum,
             hidden,
             refresh,
+            security,
         }
     }
 }
 
 impl TakeRequest {
     #[inline]
-    fn of(numbers: [u32; 4]) -> TakeRequest {
-        let [side, limit, size, algorithm] = numbers;
+    fn of(numbers: [u32; 5]) -> TakeRequest {
+        let [side, limit, size, algorithm, security] = numbers;
         TakeRequest {
             side,
             limit,
             size,
             algorithm,
+            security,
         }
     }
 }
@@ -130,36 +146,38 @@ fn only(refusal: u32) -> Numbers {
 }
 
 #[inline]
-pub fn check(book: &[u8]) -> Numbers {
+pub fn check(book: &[u8], security: u32) -> Numbers {
     // Safety: the slice is as many bytes as said, and is only read.
-    let checked = unsafe { ruhvasto_check(book.as_ptr(), book.len()) };
+    let checked = unsafe { ruhvasto_check(book.as_ptr(), book.len(), security) };
     [checked.refusal as usize, checked.orders as usize, 0]
 }
 
 #[inline]
-pub fn find(book: &[u8], number: u32) -> Numbers {
+pub fn find(book: &[u8], security: u32, number: u32) -> Numbers {
     // Safety: as above.
-    let found = unsafe { ruhvasto_find(book.as_ptr(), book.len(), number) };
+    let found = unsafe { ruhvasto_find(book.as_ptr(), book.len(), security, number) };
     [found.refusal as usize, found.start, found.length]
 }
 
-/// Side, kind, number, price, size, minimum, hidden shares and refresh size.
+/// Side, kind, number, price, size, minimum, hidden shares, refresh size and
+/// security.
 #[inline]
-pub fn add(book: &mut [u8], numbers: [u32; 8]) -> Numbers {
+pub fn add(book: &mut [u8], numbers: [u32; 9]) -> Numbers {
     let request = AddRequest::of(numbers);
     // Safety: the slice is as many bytes as said, and nobody else's meanwhile.
     only(unsafe { ruhvasto_add(book.as_mut_ptr(), book.len(), request) })
 }
 
 #[inline]
-pub fn reduce(book: &mut [u8], number: u32, shares: u32) -> Numbers {
+pub fn reduce(book: &mut [u8], security: u32, number: u32, shares: u32) -> Numbers {
+    let (start, length) = (book.as_mut_ptr(), book.len());
     // Safety: as above.
-    only(unsafe { ruhvasto_reduce(book.as_mut_ptr(), book.len(), number, shares) })
+    only(unsafe { ruhvasto_reduce(start, length, security, number, shares) })
 }
 
-/// Side, limit, size and algorithm.
+/// Side, limit, size, algorithm and security.
 #[inline]
-pub fn take(book: &mut [u8], executions: &mut [u8], numbers: [u32; 4]) -> Numbers {
+pub fn take(book: &mut [u8], executions: &mut [u8], numbers: [u32; 5]) -> Numbers {
     let request = TakeRequest::of(numbers);
     let (start, length) = (book.as_mut_ptr(), book.len());
     let (second, room) = (executions.as_mut_ptr(), executions.len());
@@ -168,15 +186,16 @@ pub fn take(book: &mut [u8], executions: &mut [u8], numbers: [u32; 4]) -> Number
 }
 
 #[inline]
-pub fn ladder(book: &[u8], ladder: &mut [u8]) -> Numbers {
+pub fn ladder(book: &[u8], ladder: &mut [u8], security: u32) -> Numbers {
     let (start, length) = (book.as_ptr(), book.len());
+    let (second, room) = (ladder.as_mut_ptr(), ladder.len());
     // Safety: as above; the book is only read.
-    only(unsafe { ruhvasto_ladder(start, length, ladder.as_mut_ptr(), ladder.len()) })
+    only(unsafe { ruhvasto_ladder(start, length, second, room, security) })
 }
 
 /// Add that keeps a ladder.
 #[inline]
-pub fn add_ladder(book: &mut [u8], ladder: &mut [u8], numbers: [u32; 8]) -> Numbers {
+pub fn add_ladder(book: &mut [u8], ladder: &mut [u8], numbers: [u32; 9]) -> Numbers {
     let request = AddRequest::of(numbers);
     let (start, length) = (book.as_mut_ptr(), book.len());
     let (second, room) = (ladder.as_mut_ptr(), ladder.len());
@@ -186,11 +205,17 @@ pub fn add_ladder(book: &mut [u8], ladder: &mut [u8], numbers: [u32; 8]) -> Numb
 
 /// Reduce that keeps a ladder.
 #[inline]
-pub fn reduce_ladder(book: &mut [u8], ladder: &mut [u8], number: u32, shares: u32) -> Numbers {
+pub fn reduce_ladder(
+    book: &mut [u8],
+    ladder: &mut [u8],
+    security: u32,
+    number: u32,
+    shares: u32,
+) -> Numbers {
     let (start, length) = (book.as_mut_ptr(), book.len());
     let (second, room) = (ladder.as_mut_ptr(), ladder.len());
     // Safety: as above.
-    only(unsafe { ruhvasto_reduce_ladder(start, length, second, room, number, shares) })
+    only(unsafe { ruhvasto_reduce_ladder(start, length, second, room, security, number, shares) })
 }
 
 /// Take that keeps a ladder.
@@ -199,7 +224,7 @@ pub fn take_ladder(
     book: &mut [u8],
     executions: &mut [u8],
     ladder: &mut [u8],
-    numbers: [u32; 4],
+    numbers: [u32; 5],
 ) -> Numbers {
     let request = TakeRequest::of(numbers);
     // Safety: as above, for three slices.

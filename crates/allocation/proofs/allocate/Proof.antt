@@ -169,8 +169,8 @@ module _ (e : tie.After-group-end Inv-loop μ-loop) where
   slice-long = length-take-le (end - at fl) (drop (at fl) (ks fl)) (omega (arith, ends .within, length-drop (at fl) (ks fl)))
 
   -- the incoming order is the same but for its size
-  same-side : fl .fill .result .incoming .taker .side ≡ st fl .args .incoming .taker .side
-  same-side = ap (λ (i : Incoming). i .taker .side) (way fl .credited .left)
+  same-taker : fl .fill .result .incoming .taker ≡ st fl .args .incoming .taker
+  same-taker = ap (λ (i : Incoming). i .taker) (way fl .credited .left)
 
 mul-share : tie.Need-mul-share Inv-loop μ-loop
 mul-share c = record { fits = omega (arith, before-end c, ends c .within, few c) }
@@ -180,7 +180,7 @@ share-requires c κs =
     let e = c .before .before .before .before .before .before .before in
     let f = fl e in
     let a = st f .args in (
-      rw (same-side e) (slice-book (a .book .now) (ks f) (a .lot .0) (a .algorithm) (a .incoming .taker) (start (l (u f))) (st f .pre .0) (ends e)),
+      rw (same-taker e) (slice-book (a .book .now) (ks f) (a .lot .0) (a .algorithm) (a .incoming .taker) (start (l (u f))) (st f .pre .0) (ends e)),
       record {
         forSizes = length-take-le (end e - at f) (l (u f) .loop .sizes) (for-sizes e) ∙ sym (slice-long e);
         forMinimums = length-take-le (end e - at f) (l (u f) .loop .minimums) (for-minimums e) ∙ sym (slice-long e);

@@ -11,7 +11,7 @@ use Rattle.record.specs.declared.form.RecordForm.the-variants.{Old}
 use Rattle.record.specs.Record.{newForm, oldForm}
 use Rattle.record.proofs.Numbers.{are-bytes}
 use Rattle.book.specs.Sound.{occupied, recordsIn, ordersIn, soundIn, sound, ordersOf}
-use Rattle.book.proofs.Checking.{check-accepted, check-refused, orders-count, sound-fits}
+use Rattle.book.proofs.Checking.{occupancy-accepted, occupancy-refused, orders-count, sound-fits}
 use Rattle.conversion.specs.Conversion.{isUntold}
 use Rattle.conversion.proofs.Refused.{refuses-unsound, refuses-untold, refuses-unfit}
 use Rattle.conversion.proofs.Accepted.{target-holds}
@@ -24,22 +24,22 @@ unfolding sound
 returns c =
     let k = c .before in
     let a = k .before .before .before .args in
-    let b = check-refused (a .book .now) _ (k .check .ensures) (c .if1 .taken) in
+    let b = occupancy-refused (a .book .now) _ (k .occupancy .ensures) (c .if1 .taken) in
     rw (b .1) (refusal-answer Old (a .book .now) (a .target .now) 2 (refuses-unsound newForm oldForm (a .book .now) (a .target .now) (b .0)))
 
 -- A book that was found sound.
 module _ (c : tie.Else1) where
-  abbrev checked : tie.After-check
+  abbrev checked : tie.After-occupancy
   checked = c .before
 
   abbrev source : List ℕ
   source = checked .before .before .before .args .book .now
 
   abbrev orders : ℕ
-  orders = checked .check .result .orders
+  orders = checked .occupancy .result .records
 
   accepted-here : (sound source ≡ true) × (orders ≡ length (ordersOf source))
-  accepted-here = check-accepted source _ (checked .check .ensures) (c .if1 .left)
+  accepted-here = occupancy-accepted source _ (checked .occupancy .ensures) (c .if1 .left)
 
   sound-here : soundIn newForm source ≡ true
   unfolding sound
@@ -53,12 +53,12 @@ module _ (c : tie.Else1) where
   inside = omega (arith, accepted-here .1, sound-fits source (accepted-here .0))
 
 are-plain-requires : tie.Need-are-plain-requires
-are-plain-requires c κs = inside (c .before)
+are-plain-requires c κs = inside c
 
 returns-2 : tie.Need-returns-2
 returns-2 c =
     let p = c .before in
-    let e = p .before .before in
+    let e = p .before in
     let a = checked e .before .before .before .args in
     refusal-answer Old (source e) (a .target .now) 11
     (refuses-untold newForm oldForm (source e) (a .target .now) (sound-here e)
@@ -67,7 +67,7 @@ returns-2 c =
 -- A book whose orders the old form tells.
 module _ (d : tie.Else2) where
   abbrev found : tie.Else1
-  found = d .before .before .before
+  found = d .before .before
 
   told-here : isUntold oldForm (ordersIn newForm (source found)) ≡ false
   told-here =
@@ -109,5 +109,5 @@ pub to-old-spec : {M : Type 1} → statement M
 to-old-spec =
     tie.close
     (tie.spec
-    (λ c κs. search needs) returns (λ c. search needs) are-plain-requires returns-2 (λ c κs. search needs) returns-3 fill-requires
+    (λ c κs. search needs) returns are-plain-requires returns-2 (λ c κs. search needs) returns-3 fill-requires
     (λ c. search needs) returns-4)

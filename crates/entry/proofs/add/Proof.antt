@@ -2,7 +2,7 @@
 use mathlib.Core.Path.{sym, _∙_}
 use borrow.Author.Needs.{needs}
 use borrow.Author.Tests.{not-true, not-false}
-use Rattle.book.proofs.Checking.{check-accepted}
+use Rattle.book.proofs.Checking.{occupancy-accepted}
 use Rattle.book.proofs.Committing.{refusal-answer}
 use Rattle.entry.specs.Add.{addCall}
 use Rattle.entry.proofs.Adding.{add-sound}
@@ -26,19 +26,19 @@ returns-2 c =
     let s = a .book .now in
     let q = a .request in
     let e = sym (t .in-range .ensures) ∙ not-false _ (k .before .before .if1 .left) in
-    refusal-answer (addCall q s) s (add-sound q s) _ (add-unsound q s e _ (k .check .ensures) (c .if2 .taken))
+    refusal-answer (addCall q s) s (add-sound q s) _ (add-unsound q s e _ (k .occupancy .ensures) (c .if2 .taken))
 
 add-checked-requires : tie.Need-add-checked-requires
 add-checked-requires c κs =
-    let d = c .before .before in
+    let d = c .before in
     let k = d .before in
     let t = k .before .before .before in
-    let b = check-accepted (t .before .before .args .book .now) _ (k .check .ensures) (d .if2 .left) in
+    let b = occupancy-accepted (t .before .before .args .book .now) _ (k .occupancy .ensures) (d .if2 .left) in
     (sym (t .in-range .ensures) ∙ not-false _ (k .before .before .if1 .left), b .0, b .1)
 
 pub add-spec : {M : Type 1} → statement M
 add-spec =
     tie.close
     (tie.spec
-    (λ c κs. search needs) returns (λ c κs. search needs) (λ c. search needs) returns-2 (λ c. search needs) add-checked-requires
+    (λ c κs. search needs) returns (λ c κs. search needs) (λ c. search needs) returns-2 add-checked-requires
     (λ c. search needs) (λ c. search needs))

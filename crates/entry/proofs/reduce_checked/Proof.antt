@@ -15,14 +15,14 @@ write-order-requires c κs =
     let m = c .before .before in
     let d = m .before .before in
     let a = d .before .before .before .args in
-    plan-kept (a .number) (a .shares) (a .book .now) _ _ (sym (m .start .given .1) ∙ d .decide .ensures) .inside
+    plan-kept (a .security) (a .number) (a .shares) (a .book .now) _ _ (sym (m .start .given .1) ∙ d .decide .ensures) .inside
 
 remove-requires : tie.Need-remove-requires
 remove-requires c κs =
     let m = c .before .before in
     let d = m .before .before in
     let a = d .before .before .before .args in
-    plan-gone (a .number) (a .shares) (a .book .now) _ (sym (m .start2 .given .1) ∙ d .decide .ensures) .inside
+    plan-gone (a .security) (a .number) (a .shares) (a .book .now) _ (sym (m .start2 .given .1) ∙ d .decide .ensures) .inside
 
 returns : tie.Need-returns
 returns c =
@@ -30,8 +30,8 @@ returns c =
     let d = m .before .before in
     let a = d .before .before .before .args in
     let s = a .book .now in
-    refusal-answer (reduceCall (a .number) (a .shares) s) s (reduce-sound (a .number) (a .shares) s) _
-    (plan-refused (a .number) (a .shares) s _ (sym (m .refusal .given .1) ∙ d .decide .ensures))
+    refusal-answer (reduceCall (a .security) (a .number) (a .shares) s) s (reduce-sound (a .security) (a .number) (a .shares) s) _
+    (plan-refused (a .security) (a .number) (a .shares) s _ (sym (m .refusal .given .1) ∙ d .decide .ensures))
 
 returns-2 : tie.Need-returns-2
 returns-2 c =
@@ -41,9 +41,9 @@ returns-2 c =
     let e = d .before .before in
     let a = e .before .args in
     let s = a .book .now in
-    written-answer (reduceCall (a .number) (a .shares) s) s (reduce-sound (a .number) (a .shares) s)
+    written-answer (reduceCall (a .security) (a .number) (a .shares) s) s (reduce-sound (a .security) (a .number) (a .shares) s)
     (are-bytes s (λ k. omega (arith, e .slice-known .given k))) _ _ _
-    (plan-kept (a .number) (a .shares) s _ _ (sym (m .start .given .1) ∙ d .decide .ensures)) (w .write-order .ensures)
+    (plan-kept (a .security) (a .number) (a .shares) s _ _ (sym (m .start .given .1) ∙ d .decide .ensures)) (w .write-order .ensures)
 
 returns-3 : tie.Need-returns-3
 returns-3 c =
@@ -53,9 +53,9 @@ returns-3 c =
     let e = d .before .before in
     let a = e .before .args in
     let s = a .book .now in
-    removed-answer (reduceCall (a .number) (a .shares) s) s (reduce-sound (a .number) (a .shares) s)
+    removed-answer (reduceCall (a .security) (a .number) (a .shares) s) s (reduce-sound (a .security) (a .number) (a .shares) s)
     (are-bytes s (λ k. omega (arith, e .slice-known .given k))) _ _
-    (plan-gone (a .number) (a .shares) s _ (sym (m .start2 .given .1) ∙ d .decide .ensures)) (w .remove .ensures)
+    (plan-gone (a .security) (a .number) (a .shares) s _ (sym (m .start2 .given .1) ∙ d .decide .ensures)) (w .remove .ensures)
 
 pub reduce-checked-spec : {M : Type 1} → statement M
 reduce-checked-spec =

@@ -15,8 +15,8 @@ returns c =
     let t = c .before in
     let a = t .before .before .before .args in
     let p = add-plain (a .request) (a .book .now) in
-    answers p (a .ladder .now)
-    (form-range p (a .ladder .now) (sym (t .in-range .ensures) ∙ not-true _ (c .if1 .taken)))
+    answers (a .request .security) p (a .ladder .now)
+    (form-range (a .request .security) p (a .ladder .now) (sym (t .in-range .ensures) ∙ not-true _ (c .if1 .taken)))
 
 returns-2 : tie.Need-returns-2
 unfolding addLadderCall
@@ -25,8 +25,8 @@ returns-2 c =
     let t = k .before .before .before .before in
     let a = t .before .before .before .args in
     let p = add-plain (a .request) (a .book .now) in
-    answers p (a .ladder .now)
-    (form-seen p (a .ladder .now) (sym (t .in-range .ensures) ∙ not-false _ (k .before .before .before .if1 .left)) _ (k .see .ensures) (c .if2 .taken))
+    answers (a .request .security) p (a .ladder .now)
+    (form-seen (a .request .security) p (a .ladder .now) (sym (t .in-range .ensures) ∙ not-false _ (k .before .before .before .if1 .left)) _ (k .see .ensures) (c .if2 .taken))
 
 add-checked-requires : tie.Need-add-checked-requires
 add-checked-requires c κs =
@@ -34,7 +34,7 @@ add-checked-requires c κs =
     let k = e .before in
     let t = k .before .before .before .before in
     let a = t .before .before .before .args in
-    let b = kept-accepted (a .book .now) (a .ladder .now) _ (k .see .ensures) (e .if2 .left) in
+    let b = kept-accepted (a .request .security) (a .book .now) (a .ladder .now) _ (k .see .ensures) (e .if2 .left) in
     (sym (t .in-range .ensures) ∙ not-false _ (k .before .before .before .if1 .left), b .isSound, b .counted)
 
 keep-requires : tie.Need-keep-requires
@@ -43,7 +43,7 @@ keep-requires c κs =
     let e = p .before .before in
     let k = e .before in
     let a = k .before .before .before .before .before .before .before .args in
-    let b = kept-accepted (a .book .now) (a .ladder .now) _ (k .see .ensures) (e .if2 .left) in
+    let b = kept-accepted (a .request .security) (a .book .now) (a .ladder .now) _ (k .see .ensures) (e .if2 .left) in
     (p .add-checked .ensures .1 .1, b .long, b .few, b .clear)
 
 returns-3 : tie.Need-returns-3
@@ -56,8 +56,8 @@ returns-3 c =
     let t = k .before .before .before .before in
     let a = t .before .before .before .args in
     let p = add-plain (a .request) (a .book .now) in
-    answers p (a .ladder .now)
-    (form-made p (a .ladder .now) (sym (t .in-range .ensures) ∙ not-false _ (k .before .before .before .if1 .left)) _ (k .see .ensures) (e .if2 .left)
+    answers (a .request .security) p (a .ladder .now)
+    (form-made (a .request .security) p (a .ladder .now) (sym (t .in-range .ensures) ∙ not-false _ (k .before .before .before .if1 .left)) _ (k .see .ensures) (e .if2 .left)
     (d .add-checked .ensures .0) (d .add-checked .ensures .1 .0) (m .keep .ensures))
 
 pub add-spec : {M : Type 1} → statement M

@@ -8,7 +8,7 @@ renew-requires : tie.Need-renew-requires
 renew-requires c κs =
     let n = c .before in
     let s = n .before .before .before .before in
-    (s .pre .0 (n .before .if1 .taken), n .count .ensures, s .pre .1, s .pre .2, s .pre .3)
+    (s .pre .0 (n .before .if1 .taken), n .occupied .ensures, s .pre .1, s .pre .2, s .pre .3)
 
 returns : tie.Need-returns
 returns c =

@@ -14,9 +14,9 @@ unfolding reduceLadderCall
 returns c =
     let t = c .before in
     let a = t .before .before .before .args in
-    let p = reduce-plain (a .number) (a .shares) (a .book .now) in
-    answers p (a .ladder .now)
-    (form-range p (a .ladder .now) (sym (t .in-range .ensures) ∙ not-true _ (c .if1 .taken)))
+    let p = reduce-plain (a .security) (a .number) (a .shares) (a .book .now) in
+    answers (a .security) p (a .ladder .now)
+    (form-range (a .security) p (a .ladder .now) (sym (t .in-range .ensures) ∙ not-true _ (c .if1 .taken)))
 
 returns-2 : tie.Need-returns-2
 unfolding reduceLadderCall
@@ -24,9 +24,9 @@ returns-2 c =
     let k = c .before in
     let t = k .before .before .before .before in
     let a = t .before .before .before .args in
-    let p = reduce-plain (a .number) (a .shares) (a .book .now) in
-    answers p (a .ladder .now)
-    (form-seen p (a .ladder .now) (sym (t .in-range .ensures) ∙ not-false _ (k .before .before .before .if1 .left)) _ (k .see .ensures) (c .if2 .taken))
+    let p = reduce-plain (a .security) (a .number) (a .shares) (a .book .now) in
+    answers (a .security) p (a .ladder .now)
+    (form-seen (a .security) p (a .ladder .now) (sym (t .in-range .ensures) ∙ not-false _ (k .before .before .before .if1 .left)) _ (k .see .ensures) (c .if2 .taken))
 
 reduce-checked-requires : tie.Need-reduce-checked-requires
 reduce-checked-requires c κs =
@@ -34,7 +34,7 @@ reduce-checked-requires c κs =
     let k = e .before in
     let t = k .before .before .before .before in
     let a = t .before .before .before .args in
-    let b = kept-accepted (a .book .now) (a .ladder .now) _ (k .see .ensures) (e .if2 .left) in
+    let b = kept-accepted (a .security) (a .book .now) (a .ladder .now) _ (k .see .ensures) (e .if2 .left) in
     (sym (t .in-range .ensures) ∙ not-false _ (k .before .before .before .if1 .left), b .isSound, b .counted)
 
 keep-requires : tie.Need-keep-requires
@@ -43,7 +43,7 @@ keep-requires c κs =
     let e = p .before .before in
     let k = e .before in
     let a = k .before .before .before .before .before .before .before .args in
-    let b = kept-accepted (a .book .now) (a .ladder .now) _ (k .see .ensures) (e .if2 .left) in
+    let b = kept-accepted (a .security) (a .book .now) (a .ladder .now) _ (k .see .ensures) (e .if2 .left) in
     (p .reduce-checked .ensures .1 .1, b .long, b .few, b .clear)
 
 returns-3 : tie.Need-returns-3
@@ -55,9 +55,9 @@ returns-3 c =
     let k = e .before in
     let t = k .before .before .before .before in
     let a = t .before .before .before .args in
-    let p = reduce-plain (a .number) (a .shares) (a .book .now) in
-    answers p (a .ladder .now)
-    (form-made p (a .ladder .now) (sym (t .in-range .ensures) ∙ not-false _ (k .before .before .before .if1 .left)) _ (k .see .ensures) (e .if2 .left)
+    let p = reduce-plain (a .security) (a .number) (a .shares) (a .book .now) in
+    answers (a .security) p (a .ladder .now)
+    (form-made (a .security) p (a .ladder .now) (sym (t .in-range .ensures) ∙ not-false _ (k .before .before .before .if1 .left)) _ (k .see .ensures) (e .if2 .left)
     (d .reduce-checked .ensures .0) (d .reduce-checked .ensures .1 .0) (m .keep .ensures))
 
 pub reduce-spec : {M : Type 1} → statement M

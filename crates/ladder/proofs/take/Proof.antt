@@ -29,7 +29,7 @@ take-checked-requires c κs =
     let k = e .before in
     let t = k .before .before .before .before in
     let a = t .before .before .before .before .args in
-    let b = kept-accepted (a .book .now) (a .ladder .now) _ (k .see .ensures) (e .if2 .left) in
+    let b = kept-accepted (a .request .security) (a .book .now) (a .ladder .now) _ (k .see .ensures) (e .if2 .left) in
     record { inRange = sym (t .in-range .ensures) ∙ not-false _ (k .before .before .before .if1 .left); isSound = b .isSound; counted = b .counted }
 
 keep-requires : tie.Need-keep-requires
@@ -38,7 +38,7 @@ keep-requires c κs =
     let e = p .before .before .before in
     let k = e .before in
     let a = k .before .before .before .before .before .before .before .before .args in
-    let b = kept-accepted (a .book .now) (a .ladder .now) _ (k .see .ensures) (e .if2 .left) in
+    let b = kept-accepted (a .request .security) (a .book .now) (a .ladder .now) _ (k .see .ensures) (e .if2 .left) in
     (p .take-checked .ensures .1 .1 .1 .1, b .long, b .few, b .clear)
 
 returns-3 : tie.Need-returns-3

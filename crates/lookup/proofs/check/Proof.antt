@@ -1,51 +1,49 @@
--- `lookup::check` meets its contract: a length that is none of a book's, and then the four tests of the records that were counted.
-use mathlib.Core.Path.{sym, _∙_}
+-- `lookup::check` meets its contract, refusal by refusal, and by the orders counted.
+use mathlib.Core.Path.{sym, ap, _∙_}
 use native.Mathlib.Omega.{arith}
 use borrow.Author.Needs.{needs}
 use borrow.Author.Tests.{not-true, not-false}
-use Rattle.book.proofs.Checking.{sound-length, sound-parts, whole-most, check-sound, check-unsound}
+use Rattle.orders.specs.Trading.{ofSecurity}
+use Rattle.book.specs.Sound.{firstOrders}
+use Rattle.book.proofs.Checking.{orders-first, sound-fits, occupancy-accepted, occupancy-refused, check-range, check-unsound, check-sound}
+use Rattle.lookup.specs.Setters.{countOf}
 use Rattle.lookup.proofs.check.Statement.{statement}
 use Rattle.lookup.proofs.check.Tie as tie
 
 returns : tie.Need-returns
 returns c =
-    let w = c .before in
-    let s = w .before .before .args .book .now in
-    check-unsound s (sound-length s (sym (w .has-whole-records .ensures) ∙ not-true _ (c .if1 .taken)))
-
-is-sound-requires : tie.Need-is-sound-requires
-is-sound-requires c κs =
-    let w = c .before .before in
-    let s = w .before .before .args .book .now in
-    let m = whole-most s (sym (w .has-whole-records .ensures) ∙ not-false _ (c .before .if1 .left)) in
-    omega (arith, c .count-occupied .ensures .1)
-
-cast-t8 : tie.Need-cast-t8
-cast-t8 c =
-    let w = c .before .before .before .before in
-    let s = w .before .before .args .book .now in
-    let m = whole-most s (sym (w .has-whole-records .ensures) ∙ not-false _ (c .before .before .before .if1 .left)) in
-    omega (arith, c .before .before .count-occupied .ensures .1)
+    let t = c .before .before in
+    let a = t .before .before .args in
+    c .unchecked .ensures ∙ check-range (a .book .now) (a .security) (sym (t .security-in-range .ensures) ∙ not-true _ (c .before .if1 .taken))
 
 returns-2 : tie.Need-returns-2
 returns-2 c =
     let d = c .before .before in
-    let w = d .before .before in
-    let s = w .before .before .args .book .now in
-    let n = d .count-occupied .ensures .0 in
-    let q = sound-parts s _ n (sym (w .has-whole-records .ensures) ∙ not-false _ (d .before .if1 .left)) in
-    check-sound s _ n (q ∙ sym (c .before .is-sound .ensures) ∙ c .if2 .taken)
+    let t = d .before .before in
+    let a = t .before .before .args in
+    let r = sym (t .security-in-range .ensures) ∙ not-false _ (d .before .if1 .left) in
+    let b = occupancy-refused (a .book .now) _ (d .occupancy .ensures) (c .before .if2 .taken) in
+    c .unchecked2 .ensures ∙ ap (λ k. record { refusal = k; orders = 0 }) (b .1) ∙ check-unsound (a .book .now) (a .security) r (b .0)
+
+count-of-requires : tie.Need-count-of-requires
+count-of-requires c κs =
+    let d = c .before in
+    let s = d .before .before .before .before .args .book .now in
+    let b = occupancy-accepted s _ (d .occupancy .ensures) (c .if2 .left) in
+    omega (arith, b .1, sound-fits s (b .0))
 
 returns-3 : tie.Need-returns-3
 returns-3 c =
     let d = c .before .before in
-    let w = d .before .before in
-    let s = w .before .before .args .book .now in
-    let n = d .count-occupied .ensures .0 in
-    let q = sound-parts s _ n (sym (w .has-whole-records .ensures) ∙ not-false _ (d .before .if1 .left)) in
-    check-unsound s (q ∙ sym (c .before .is-sound .ensures) ∙ c .if2 .left)
+    let t = d .before .before in
+    let a = t .before .before .args in
+    let s = a .book .now in
+    let k = a .security in
+    let r = sym (t .security-in-range .ensures) ∙ not-false _ (d .before .if1 .left) in
+    let b = occupancy-accepted s _ (d .occupancy .ensures) (c .before .if2 .left) in
+    let n = c .count-of .ensures ∙ ap (λ i. countOf (ofSecurity k) (firstOrders i s)) (b .1) ∙ ap (countOf (ofSecurity k)) (sym (orders-first s)) in
+    ap (λ i. record { refusal = 0; orders = i }) n ∙ check-sound s k r (b .0)
 
 pub check-spec : {M : Type 1} → statement M
 check-spec =
-    tie.close
-    (tie.spec (λ c κs. search needs) returns (λ c κs. search needs) is-sound-requires cast-t8 returns-2 returns-3)
+    tie.close (tie.spec (λ c κs. search needs) (λ c κs. search needs) returns (λ c κs. search needs) (λ c κs. search needs) returns-2 count-of-requires returns-3)

@@ -18,11 +18,11 @@ returns c =
     let p = c .before .before in
     let t = p .before .before in
     let a = t .args in
-    let f = computed-missing (a .number) (a .book .now) (t .pre .0) (t .pre .1) _ _ (t .pre .2) (p .place-of .ensures .0) (c .before .if1 .taken) in
+    let f = computed-missing (a .security) (a .number) (a .book .now) (t .pre .0) (t .pre .1) _ _ (t .pre .2) (p .place-of .ensures .0) (c .before .if1 .taken) in
     (c .not-found .ensures ∙ sym f, missed-inside _ _ _ (c .not-found .ensures))
 
-mul-t6 : tie.Need-mul-t6
-mul-t6 c =
+mul-t7 : tie.Need-mul-t7
+mul-t7 c =
     let t = c .before .before .before in
     omega (arith, sound-fits (t .args .book .now) (t .pre .1))
 
@@ -31,8 +31,8 @@ returns-2 c =
     let p = c .before in
     let t = p .before .before in
     let a = t .args in
-    let f = computed-found (a .number) (a .book .now) (t .pre .0) (t .pre .1) _ _ (t .pre .2) (p .place-of .ensures .0) (c .if1 .left) in
+    let f = computed-found (a .security) (a .number) (a .book .now) (t .pre .0) (t .pre .1) _ _ (t .pre .2) (p .place-of .ensures .0) (c .if1 .left) in
     (sym f, omega (arith, sound-fits (a .book .now) (t .pre .1), lt-of-le-of-ne (p .place-of .ensures .1) (c .if1 .left)))
 
 pub locate-checked-spec : {M : Type 1} → statement M
-locate-checked-spec = tie.close (tie.spec place-of-requires (λ c κs. search needs) returns mul-t6 returns-2)
+locate-checked-spec = tie.close (tie.spec place-of-requires (λ c κs. search needs) returns mul-t7 returns-2)

@@ -11,9 +11,10 @@ sub-other c = omega (arith, c .number .ensures, side-most (c .before .before .be
 
 returns : tie.Need-returns
 returns c =
-    let s = c .before .before .before .before .before .before .before .before .before in
+    let n = c .before .before .before .before .before .before .before in
+    let s = n .before .before .before .before in
     λ o h e.
-    rw (c .before .before .before .rank-on .ensures, c .before .before .rank-on2 .ensures, c .before .before .before .before .before .number .ensures)
+    rw (c .before .before .before .rank-on .ensures, c .before .before .rank-on2 .ensures, n .number .ensures)
     (meets-read (s .args .numbers) o e (s .args .incoming) (omega (arith, s .good .1)) (omega (arith, order-facts o h .price-most)))
 
 pub may-meet-spec : {M : Type 1} → statement M

@@ -11,7 +11,8 @@ use Rattle.record.specs.Record.{numbersOf}
 use Rattle.record.specs.Names.{namedNumbers}
 use Rattle.record.proofs.Orders.{OrderSound}
 use Rattle.parts.specs.Parts.{mayMeet}
-use Rattle.parts.proofs.Keeping.{kept-more, kept-two}
+use Rattle.units.proofs.Columns.{kept-more}
+use Rattle.parts.proofs.Keeping.{kept-two}
 use Rattle.parts.proofs.Reading.{numbers-fit, parts-one, parts-two}
 use Rattle.parts.proofs.write_parts.Statement.{statement}
 use Rattle.parts.proofs.write_parts.Tie as tie
@@ -49,12 +50,24 @@ part-of-requires-2 c κs =
     let f = numbers-fit (s .args .numbers) (h .0) (h .2) (h .1) in
     (omega arith, f .2, s .pre .0, s .pre .1, s .pre .2)
 
+mul-keys-2 : tie.Need-mul-keys-2
+mul-keys-2 c =
+    let n = c .before .before .before .before in
+    let s = n .before .before .before .before .before in
+    omega (arith, n .one-if .ensures .1, s .pre .4, s .good .1 .1 .1 .1 .1 .0)
+
 slice-write-keys-2 : tie.Need-slice-write-keys-2
 slice-write-keys-2 c =
     let p = c .before .before .before in
     let n = p .before in
     let s = n .before .before .before .before .before in
     omega (arith, n .one-if .ensures .1, length-set (s .args .keys .now) (s .args .count) (p .part-of .result))
+
+add-result : tie.Need-add-result
+add-result c =
+    let n = c .before .before .before .before in
+    let s = n .before .before .before .before .before in
+    omega (arith, n .one-if .ensures .1, s .pre .4, s .good .1 .1 .1 .1 .1 .0)
 
 returns-2 : tie.Need-returns-2
 returns-2 c =
@@ -75,5 +88,5 @@ write-parts-spec =
     tie.close
     (tie.spec
     (λ c κs. search needs) (λ c κs. search needs) (λ c. search needs) part-of-requires (λ c. search needs) (λ c. search needs)
-    (λ c. search needs) (λ c. search needs) returns part-of-requires-2 (λ c. search needs) slice-write-keys-2 (λ c. search needs)
+    (λ c. search needs) (λ c. search needs) returns part-of-requires-2 mul-keys-2 slice-write-keys-2 add-result
     (λ c. search needs) returns-2)

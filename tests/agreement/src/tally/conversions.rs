@@ -4,7 +4,7 @@ use super::reserves::is_reserve;
 use crate::calls::Call;
 use crate::compare::Entry;
 use books::damage;
-use model::book::{self, Kind, Order, MOST_ORDERS};
+use model::book::{self, Form, Kind, Order, MOST_ORDERS};
 use support::Coverage;
 
 const CALLS: [Call; 2] = [Call::ToNew, Call::ToOld];
@@ -107,10 +107,12 @@ const UNFIT: [(&str, Meets); 12] = [
 ];
 
 /// The orders for which a book is refused 11.
-const UNTOLD: [(&str, Meets); 4] = [
-    ("all of them hiding nothing", |scene| {
-        scene.reserves().all(|order| order.hidden() == 0)
-    }),
+const RESERVES: &str = "reserve orders";
+const SECOND: &str = "orders of security 1";
+const BOTH: &str = "both reserve orders and orders of security 1";
+
+/// What they are like if they are of one sort alone.
+const UNTOLD: [(&str, Meets); 3] = [
     ("the only order", |scene| scene.used == 1),
     ("the first of several alone", |scene| {
         scene.used > 1 && is_only(scene, scene.orders.first())
@@ -120,8 +122,11 @@ const UNTOLD: [(&str, Meets); 4] = [
     }),
 ];
 
-const KIND_4: &str = "refused 2 with kind 4";
-const KIND_4_AND_UNFIT: &str = "refused 2 with kind 4 and an unfit target";
+const NOTHING_HIDDEN: &str = "all of them hiding nothing";
+
+/// What an unsound book may have in a record that the old form can't tell: a byte in
+/// a place.
+const UNTOLD_BYTES: [(&str, usize, u8); 2] = [("kind 4", 3, 4), ("security 1", 21, 1)];
 
 impl Scene {
     fn of(entry: &Entry) -> Scene {
@@ -144,8 +149,10 @@ impl Scene {
         self.length / self.to
     }
 
-    fn reserves(&self) -> impl Iterator<Item = &Order> {
-        self.orders.iter().filter(|order| is_reserve(order))
+    /// The orders that the old form can't tell.
+    fn untold(&self) -> impl Iterator<Item = &Order> {
+        let orders = self.orders.iter();
+        orders.filter(|order| !Form::Old.can_tell(order))
     }
 
     fn meet(
@@ -162,9 +169,9 @@ impl Scene {
     }
 }
 
-/// Whether this is the only reserve order.
+/// Whether this is the only order that the old form can't tell.
 fn is_only(scene: &Scene, order: Option<&Order>) -> bool {
-    scene.reserves().eq(order)
+    scene.untold().eq(order)
 }
 
 pub fn expect(coverage: &mut Coverage) {
@@ -181,13 +188,26 @@ pub fn expect(coverage: &mut Coverage) {
             coverage.expect(refused_damage(call, damage));
         }
         coverage.expect(returned(call));
-        for occasion in [KIND_4, KIND_4_AND_UNFIT] {
-            coverage.expect(told(call, occasion));
+        for (what, ..) in UNTOLD_BYTES {
+            coverage.expect(told(call, &unsound_with(what)));
+            coverage.expect(told(call, &unsound_and_unfit(what)));
         }
     }
-    for (meeting, _) in UNTOLD {
-        coverage.expect(untold(meeting));
+    for sort in [RESERVES, SECOND] {
+        for (meeting, _) in UNTOLD {
+            coverage.expect(untold(sort, meeting));
+        }
     }
+    coverage.expect(untold(RESERVES, NOTHING_HIDDEN));
+    coverage.expect(untold(BOTH, "some"));
+}
+
+fn unsound_with(what: &str) -> String {
+    format!("refused 2 with {what}")
+}
+
+fn unsound_and_unfit(what: &str) -> String {
+    format!("{} and an unfit target", unsound_with(what))
 }
 
 fn told(call: Call, what: &str) -> String {
@@ -202,11 +222,8 @@ fn unfit(call: Call, refusal: usize, meeting: &str) -> String {
     told(call, &format!("refused {refusal}, a target of {meeting}"))
 }
 
-fn untold(meeting: &str) -> String {
-    told(
-        Call::ToOld,
-        &format!("refused 11, reserve orders: {meeting}"),
-    )
+fn untold(sort: &str, meeting: &str) -> String {
+    told(Call::ToOld, &format!("refused 11, {sort}: {meeting}"))
 }
 
 pub fn refused_damage(call: Call, damage: &str) -> String {
@@ -228,19 +245,37 @@ pub fn note(coverage: &mut Coverage, entry: &Entry, refusal: usize) {
     }
     scene.meet(coverage, &UNFIT, |meeting| unfit(call, refusal, meeting));
     match refusal {
-        2 => note_kind_4(coverage, entry, &scene),
-        11 => scene.meet(coverage, &UNTOLD, untold),
+        2 => note_unsound(coverage, entry, &scene),
+        11 => note_untold(coverage, &scene),
         _ => {}
     }
 }
 
-/// Notes an unsound book that has kind 4 in a record.
-fn note_kind_4(coverage: &mut Coverage, entry: &Entry, scene: &Scene) {
-    let mut records = entry.book.chunks_exact(scene.from);
-    if records.any(|record| record[3] == 4) {
-        coverage.note(told(entry.call, KIND_4));
-        let form = entry.call.form().other();
-        let unfit = !form.allows_length(scene.length) || scene.room() < scene.used;
-        coverage.note_if(unfit, &told(entry.call, KIND_4_AND_UNFIT));
+/// Notes an unsound book that has what the old form can't tell.
+fn note_unsound(coverage: &mut Coverage, entry: &Entry, scene: &Scene) {
+    for (what, place, byte) in UNTOLD_BYTES {
+        let mut records = entry.book.chunks_exact(scene.from);
+        if records.any(|record| record[place] == byte) {
+            coverage.note(told(entry.call, &unsound_with(what)));
+            let form = entry.call.form().other();
+            let unfit = !form.allows_length(scene.length) || scene.room() < scene.used;
+            coverage.note_if(unfit, &told(entry.call, &unsound_and_unfit(what)));
+        }
+    }
+}
+
+/// Notes a book that is refused 11.
+fn note_untold(coverage: &mut Coverage, scene: &Scene) {
+    let reserves = scene.untold().any(is_reserve);
+    let second = scene.untold().any(|order| order.security == 1);
+    if reserves && second {
+        coverage.note(untold(BOTH, "some"));
+        return;
+    }
+    let sort = if reserves { RESERVES } else { SECOND };
+    scene.meet(coverage, &UNTOLD, |meeting| untold(sort, meeting));
+    let nothing_hidden = scene.untold().all(|order| order.hidden() == 0);
+    if reserves && nothing_hidden {
+        coverage.note(untold(RESERVES, NOTHING_HIDDEN));
     }
 }

@@ -1,6 +1,6 @@
 //! What occurred in the calls that are lent a ladder.
 
-use crate::calls::Call;
+use crate::calls::{self, Call};
 use crate::compare::{self, Entry, Outcome};
 use model::book::{Order, Side};
 use model::ladder::{self, Row};
@@ -73,6 +73,7 @@ pub fn expect(coverage: &mut Coverage) {
             coverage.expect(refused_before(form, 10, plain));
         }
     }
+    coverage.expect(refused_beside("ladder", 1, ANOTHER_LENGTH));
     coverage.expect(refused_beside("ladder", 2, ANOTHER_LENGTH));
     for (name, _) in FORMS.iter().chain(&[("ladder", &[][..])]) {
         for (meeting, _) in MEETINGS {
@@ -122,10 +123,11 @@ pub fn note_refused(coverage: &mut Coverage, entry: &Entry, outcome: &Outcome) {
 }
 
 /// Whether the ladder at entry is what the new call makes of the book. An unsound
-/// book has none.
+/// book has none, and no security has none either.
 fn is_the_books(entry: &Entry) -> bool {
     let mut new = vec![0; LADDER_LENGTH];
-    model::ladder(&entry.book, &mut new) == 0 && new == entry.ladder
+    let security = entry.call.security().expect("a call with a ladder");
+    model::ladder(&entry.book, &mut new, security) == 0 && new == entry.ladder
 }
 
 /// Notes an accepted call that is lent a ladder, of a book that has these orders
@@ -136,7 +138,9 @@ pub fn note_accepted(
     outcome: &Outcome,
     orders: [&[Order]; 2],
 ) {
-    let [before, after] = orders.map(ladder::rows);
+    let security = entry.call.security().expect("a call with a ladder");
+    let orders = orders.map(|orders| calls::of_security(orders, security));
+    let [before, after] = orders.each_ref().map(|orders| ladder::rows(orders));
     let name = entry.call.name();
     for (meeting, meets) in MEETINGS {
         if meets(&before) || meets(&after) {
@@ -144,9 +148,9 @@ pub fn note_accepted(
         }
     }
     match entry.call.plain() {
-        Call::Ladder => note_new(coverage, entry, outcome, &before),
+        Call::Ladder(_) => note_new(coverage, entry, outcome, &before),
         Call::Add(_) => coverage.note(addition(&before, &after)),
-        Call::Reduce(_) => coverage.note(reduction(orders, &before, &after)),
+        Call::Reduce(_) => coverage.note(reduction(&before, &after)),
         Call::Take([taker, ..]) => {
             let nothing = entry.book == outcome.book;
             coverage.note_if(nothing, "take_ladder: nothing executed");
@@ -180,10 +184,11 @@ fn addition(before: &[Row], after: &[Row]) -> &'static str {
     }
 }
 
-fn reduction(orders: [&[Order]; 2], before: &[Row], after: &[Row]) -> &'static str {
+fn reduction(before: &[Row], after: &[Row]) -> &'static str {
+    let orders = |rows: &[Row]| rows.iter().map(|row| row.orders).sum::<u16>();
     if after.len() < before.len() {
         "reduce_ladder: a level's only order left"
-    } else if orders[1].len() < orders[0].len() {
+    } else if orders(after) < orders(before) {
         "reduce_ladder: an order left a level that stays"
     } else {
         "reduce_ladder: a level thinned"

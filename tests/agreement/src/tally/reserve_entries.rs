@@ -91,7 +91,7 @@ pub fn note_refused(coverage: &mut Coverage, entry: &Entry, refusal: usize) {
     match (entry.call.plain(), refusal) {
         (Call::Add(numbers), 1) => note_wrong(coverage, entry.call.name(), numbers),
         (Call::Add(numbers), 5) => note_five(coverage, entry, numbers),
-        (Call::Reduce([number, _]), 7) => {
+        (Call::Reduce([_, number, _]), 7) => {
             let orders = book::read(&entry.book).expect("7 comes behind 2");
             let order = orders.iter().find(|order| order.number == number);
             let hides = order.is_some_and(|order| order.hidden() > 0);
@@ -103,7 +103,7 @@ pub fn note_refused(coverage: &mut Coverage, entry: &Entry, refusal: usize) {
 }
 
 /// Notes which number alone is wrong in those of an add that is refused 1.
-fn note_wrong(coverage: &mut Coverage, call: &str, numbers: [u32; 8]) {
+fn note_wrong(coverage: &mut Coverage, call: &str, numbers: [u32; 9]) {
     for (wrong, place, fits) in WRONG {
         let [_, kind, _, _, size, ..] = numbers;
         let mut right = numbers;
@@ -119,7 +119,7 @@ fn note_wrong(coverage: &mut Coverage, call: &str, numbers: [u32; 8]) {
 }
 
 /// Notes an add that is refused 5.
-fn note_five(coverage: &mut Coverage, entry: &Entry, numbers: [u32; 8]) {
+fn note_five(coverage: &mut Coverage, entry: &Entry, numbers: [u32; 9]) {
     let call = entry.call.name();
     let orders = book::read(&entry.book).expect("5 comes behind 2");
     let by_resting = add_to(&without_reserves(&orders), numbers).0 != 5;
@@ -137,7 +137,7 @@ fn without_reserves(orders: &[Order]) -> Vec<Order> {
 
 /// The refusal of an add to a book of these orders, and whether the new one is
 /// marked. An order that finds no room counts as unmarked.
-fn add_to(orders: &[Order], numbers: [u32; 8]) -> (u32, bool) {
+pub fn add_to(orders: &[Order], numbers: [u32; 9]) -> (u32, bool) {
     let length = (orders.len() + 1) * RECORD_LENGTH;
     let mut book = vec![0; length.min(LONGEST_BOOK)];
     book::write(&mut book, orders);

@@ -73,7 +73,7 @@ pub fn note(coverage: &mut Coverage, entry: &Entry, before: &[Order], take: &Tak
 fn by_plain_sharing(entry: &Entry, before: &[Order]) -> Take {
     let mut entry = entry.clone();
     entry.call = entry.call.plain();
-    if let Call::Take([.., algorithm]) = &mut entry.call {
+    if let Call::Take([.., algorithm, _]) = &mut entry.call {
         *algorithm = 2;
     }
     entry.executions = vec![0; 2 * before.len() * model::EXECUTION_LENGTH];

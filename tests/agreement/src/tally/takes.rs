@@ -55,23 +55,23 @@ pub struct Take {
     pub groups: Vec<Group>,
     fits_exactly: bool,
     left: usize,
-    /// How many orders the book has at entry, and how many of them left.
+    /// How many orders the book has at entry.
     orders: usize,
-    gone: usize,
 }
 
 impl Take {
     /// The take from a book that has these orders at entry.
     pub fn new(entry: &Entry, outcome: &Outcome, before: &[Order]) -> Take {
-        let Call::Take([side, limit, size, algorithm]) = entry.call.plain() else {
+        let Call::Take([side, limit, size, algorithm, security]) = entry.call.plain() else {
             unreachable!("only takes are noted as such");
         };
         let side = Side::of_number(side).expect("an accepted side");
         let [_, count, left] = outcome.numbers;
         let executions = model::read_executions(&outcome.executions, count as u32);
-        let may_trade = |order: &&Order| order.side != side && side.within(limit, order.price);
+        let may_trade = |order: &&Order| {
+            order.security == security && order.side != side && side.within(limit, order.price)
+        };
         let parts = before.iter().filter(may_trade).flat_map(Order::parts);
-        let (_, resting) = model::check(&outcome.book);
         Take {
             side,
             size,
@@ -81,15 +81,15 @@ impl Take {
             fits_exactly: count > 0 && entry.executions.len() == count * EXECUTION_LENGTH,
             left,
             orders: before.len(),
-            gone: before.len() - resting as usize,
         }
     }
 
-    pub fn note(&self, coverage: &mut Coverage) {
+    /// Notes the take, after which so many orders rest.
+    pub fn note(&self, coverage: &mut Coverage, resting: usize) {
         if self.passes_over_minimum() {
             coverage.note(passed_over_by(self.algorithm));
         }
-        let emptied = self.orders > 1 && 2 * self.gone >= self.orders;
+        let emptied = self.orders > 1 && 2 * resting <= self.orders;
         coverage.note_if(emptied, "take: half the book's orders or more filled");
         coverage.note_if(self.fits_exactly, "take: executions fit exactly");
         let executed = self.groups.iter().any(|group| group.executed() > 0);

@@ -11,7 +11,7 @@ use Rattle.units.proofs.Scanning.{take-rest}
 use Rattle.record.specs.declared.form.RecordForm.the-variants.{Old, New}
 use Rattle.record.specs.Record.{newForm, oldForm}
 use Rattle.book.specs.Sound.{firstRecords, sound}
-use Rattle.book.proofs.Checking.{check-test}
+use Rattle.book.proofs.Checking.{occupancy-test}
 use Rattle.conversion.specs.Conversion.{turned}
 use Rattle.conversion.proofs.Turned.{length-all-turned}
 use Rattle.conversion.proofs.OldBooks.{few-records, old-sound}
@@ -38,8 +38,8 @@ module _ (c : tie.After-turn) where
 array-share-prefix-renewed : tie.Need-array-share-prefix-renewed
 array-share-prefix-renewed c = omega (arith, within (c .before))
 
-slice-aggregate-check : tie.Need-slice-aggregate-check
-slice-aggregate-check c = sym (length-take-le _ _ (omega (arith, within (c .before .before))))
+slice-aggregate-occupancy : tie.Need-slice-aggregate-occupancy
+slice-aggregate-occupancy c = sym (length-take-le _ _ (omega (arith, within (c .before .before))))
 
 returns : tie.Need-returns
 unfolding sound
@@ -54,7 +54,7 @@ returns c =
     let front = flatMap (turned newForm) (firstRecords oldForm (a .n) s) in
     let l : length front ≡ t .turn .result = length-all-turned Old New (a .n) s (b .pre .2) ∙ sym (t .turn .ensures .0) in
     let made = ap (take (t .turn .result)) (t .turn .ensures .1) ∙ take-at front (drop (0 + length front) (t .before .before .no-records .result)) (t .turn .result) l in
-    let checked = ap (λ r. eqb (r .refusal) 0) (k .check .ensures) ∙ check-test _ ∙ ap sound made in
+    let checked = ap (λ r. eqb (r .refusal) 0) (k .occupancy .ensures) ∙ occupancy-test _ ∙ ap sound made in
     rw (
       p .are-plain .ensures,
       z .zeros .ensures ∙ ap (all isZero) (take-rest (32 * a .n) s),
@@ -66,6 +66,6 @@ pub is-sound-spec : {M : Type 1} → statement M
 is-sound-spec =
     tie.close
     (tie.spec
-    (λ c κs. search needs) (λ c. search needs) turn-requires array-share-prefix-renewed slice-aggregate-check
+    (λ c κs. search needs) (λ c. search needs) turn-requires array-share-prefix-renewed slice-aggregate-occupancy
     (λ c κs. search needs) (λ c κs. search needs) (λ c. search needs) (λ c. search needs) (λ c. search needs) (λ c. search needs)
     (λ c κs. search needs) returns)

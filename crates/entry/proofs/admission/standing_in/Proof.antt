@@ -30,13 +30,13 @@ later new ns = refl
 
 loop-again : tie.Need-loop-again Inv-loop μ-loop
 loop-again c =
-    let d = c .before .before .before .before in
+    let d = c .before .before .before in
     let l = d .before .before in
     let s = l .before .before in
     let a = s .args in
     let ns = decode (form .layout) (take 40 (drop (l .loop .at) (a .book .now))) in
     let e = d .numbers-at .ensures in
-    rw (c .before .could-trade .ensures ns e (s .pre .1), c .beats .ensures ns e, e, later (a .new) ns)
+    rw (c .before .could-trade .ensures ns e (s .pre .1), c .beats .ensures ns e, c .before .before .is-later .ensures, e, later (a .new) ns)
     (compared-more (a .book .now) (a .n) (a .new) (l .loop .inv) (d .before .loop-test .taken) (orderOf ns) refl)
 
 returns : tie.Need-returns Inv-loop μ-loop
@@ -48,5 +48,5 @@ pub standing-in-spec : {M : Type 1} → statement M
 standing-in-spec =
     tie.close
     (tie.spec
-    Inv-loop μ-loop loop-holds (λ c κs. search needs) (λ c κs. search needs) (λ c κs. search needs) (λ c. search needs)
-    (λ c. search needs) (λ c. search needs) loop-again returns)
+    Inv-loop μ-loop loop-holds (λ c κs. search needs) (λ c κs. search needs) (λ c κs. search needs) (λ c κs. search needs)
+    (λ c. search needs) (λ c. search needs) (λ c. search needs) loop-again returns)

@@ -11,36 +11,36 @@ use Rattle.lookup.proofs.place.place_of.Statement.{statement}
 use Rattle.lookup.proofs.place.place_of.Tie as tie
 
 abbrev Inv-loop : tie.InvT-loop
-Inv-loop book n number at₀ left₀ place₀ at left place =
+Inv-loop book n security number at₀ left₀ place₀ at left place =
     (at + 40 * left ≤ length book)
     × (place + left ≡ n)
-    × (place + placeOf number (firstOrders left (drop at book)) ≡ placeOf number (firstOrders n book))
+    × (place + placeOf security number (firstOrders left (drop at book)) ≡ placeOf security number (firstOrders n book))
 
 abbrev μ-loop : tie.MeasureT-loop
-μ-loop book n number at₀ left₀ place₀ at left place = left
+μ-loop book n security number at₀ left₀ place₀ at left place = left
 
 loop-holds : tie.Need-loop-holds Inv-loop μ-loop
 loop-holds c = search needs
 
 returns : tie.Need-returns Inv-loop μ-loop
 returns c =
-    let i = c .before .before .before in
+    let i = c .before .before .before .before in
     let l = i .before in
     let a = l .before .before .args in
-    omega (arith, place-stop (a .book .now) (l .loop .at) _ (i .loop-test .taken) _ (c .before .before .order-at .ensures) (a .number) (c .if1 .taken))
+    omega (arith, place-stop (a .book .now) (l .loop .at) _ (i .loop-test .taken) _ (c .before .before .before .order-at .ensures) (a .security) (a .number) (c .if1 .taken))
 
 loop-again : tie.Need-loop-again Inv-loop μ-loop
 loop-again c =
-    let i = c .before .before .before in
+    let i = c .before .before .before .before in
     let l = i .before in
     let a = l .before .before .args in
-    omega (arith, place-more (a .book .now) (l .loop .at) _ (i .loop-test .taken) _ (c .before .before .order-at .ensures) (a .number) (c .if1 .left))
+    omega (arith, place-more (a .book .now) (l .loop .at) _ (i .loop-test .taken) _ (c .before .before .before .order-at .ensures) (a .security) (a .number) (c .if1 .left))
 
 returns-2 : tie.Need-returns-2 Inv-loop μ-loop
 returns-2 c =
     let l = c .before in
     let a = l .before .before .args in
-    omega (arith, place-done (a .book .now) (l .loop .at) _ (c .loop-test .left) (a .number))
+    omega (arith, place-done (a .book .now) (l .loop .at) _ (c .loop-test .left) (a .security) (a .number))
 
 pub place-of-spec : {M : Type 1} → statement M
 place-of-spec =

@@ -11,7 +11,7 @@ returns : tie.Need-returns
 returns c =
     let m = c .before in
     let a = m .before .before .args in
-    sym (few-apart (firstOrders (a .n) (a .book .now)) (omega (arith, m .count-marked .ensures)))
+    λ h. sym (few-apart (firstOrders (a .n) (a .book .now)) (omega (arith, m .count-marked .ensures)))
 
 pub are-apart-spec : {M : Type 1} → statement M
 are-apart-spec = tie.close (tie.spec (λ c κs. search needs) (λ c κs. search needs) returns (λ c. search needs))

@@ -7,7 +7,7 @@ use borrow.Author.Needs.{needs}
 use lib.ListN.{length, drop}
 use Rattle.book.specs.Sound.{firstOrders}
 use Rattle.lookup.specs.Setters.{markedIn}
-use Rattle.lookup.proofs.Counting.{marked-more, marked-same, marked-done}
+use Rattle.lookup.proofs.Counting.{counted-more, counted-same, counted-done}
 use Rattle.lookup.proofs.setters.count_marked.Statement.{statement}
 use Rattle.lookup.proofs.setters.count_marked.Tie as tie
 
@@ -27,14 +27,14 @@ loop-again c =
     let l = i .before in
     let s = l .before .before .args .book .now in
     ⊎-elim
-    (λ w. omega (arith, w .1, marked-more s (l .loop .at) _ (i .loop-test .taken) _ (o .order-at .ensures) (w .0 .taken)))
-    (λ w. omega (arith, w .1, marked-same s (l .loop .at) _ (i .loop-test .taken) _ (o .order-at .ensures) (w .0 .left)))
+    (λ w. omega (arith, w .1, counted-more (λ x. x .setter) s (l .loop .at) _ (i .loop-test .taken) _ (o .order-at .ensures) (w .0 .taken)))
+    (λ w. omega (arith, w .1, counted-same (λ x. x .setter) s (l .loop .at) _ (i .loop-test .taken) _ (o .order-at .ensures) (w .0 .left)))
     (c .if1 .came)
 
 returns : tie.Need-returns Inv-loop μ-loop
 returns c =
     let l = c .before in
-    omega (arith, marked-done (l .before .before .args .book .now) (l .loop .at) _ (c .loop-test .left))
+    omega (arith, counted-done (λ x. x .setter) (l .before .before .args .book .now) (l .loop .at) _ (c .loop-test .left))
 
 pub count-marked-spec : {M : Type 1} → statement M
 count-marked-spec =

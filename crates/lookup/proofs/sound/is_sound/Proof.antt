@@ -4,6 +4,7 @@ use mathlib.Core.Path.{ap, _∙_}
 use borrow.Author.Needs.{needs}
 use Rattle.units.specs.Lists.{all, isZero}
 use Rattle.units.proofs.Scanning.{take-rest}
+use Rattle.lookup.proofs.Ranges.{apart-where}
 use Rattle.lookup.proofs.sound.is_sound.Statement.{statement}
 use Rattle.lookup.proofs.sound.is_sound.Tie as tie
 
@@ -14,11 +15,11 @@ returns c =
     let p = z .before .before in
     let a = p .before .before .args in
     rw (
-      c .are-apart .ensures,
       r .numbers-rise .ensures,
       z .zeros .ensures ∙ ap (all isZero) (take-rest (40 * a .n) (a .book .now)),
       p .records-sound .ensures,
     )
+    (apart-where (a .n) (a .book .now) _ (c .are-apart .ensures) _ _)
 
 pub is-sound-spec : {M : Type 1} → statement M
 is-sound-spec =

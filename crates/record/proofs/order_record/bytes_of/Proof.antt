@@ -28,7 +28,8 @@ returns : tie.Need-returns
 unfolding encode numbersOf
 returns c =
     let p = c .before in
-    let r = p .before .before .before in
+    let u = p .before .before .before in
+    let r = u .before in
     let w = r .before in
     let h = w .before in
     let v = h .before in
@@ -43,6 +44,7 @@ returns c =
     let o = s .before .args .order in
     p .put .ensures ∙
     simp (
+      u .u32-bytes7 .ensures,
       r .u32-bytes6 .ensures,
       w .refresh .ensures,
       h .u32-bytes5 .ensures,
@@ -66,7 +68,8 @@ bytes-of-spec =
     (tie.spec
     (λ c κs. search needs) (λ c κs. search needs) (λ c κs. search needs) (λ c κs. search needs)
     (λ c κs. search needs) (λ c κs. search needs) (λ c κs. search needs) (λ c κs. search needs)
-    (λ c κs. search needs) (λ c κs. search needs) (λ c κs. search needs) (λ c κs. search needs) (λ c. search needs)
+    (λ c κs. search needs) (λ c κs. search needs) (λ c κs. search needs) (λ c κs. search needs) (λ c κs. search needs)
+    (λ c. search needs) (λ c. search needs)
     (λ c. search needs) (λ c. search needs) (λ c. search needs) (λ c. search needs) (λ c. search needs)
     (λ c. search needs) (λ c. search needs) (λ c. search needs) (λ c. search needs) (λ c. search needs)
     (λ c. search needs) (λ c. search needs) (λ c. search needs) (λ c. search needs) (λ c. search needs)

@@ -7,7 +7,8 @@ use Rattle.record.proofs.order_record.is_sound.Tie as tie
 
 returns : tie.Need-returns
 returns c =
-    let g = c .before .before .before .before .before in
+    let w = c .before .before .before .before .before in
+    let g = w .before in
     let m = g .before in
     let z = m .before in
     let p = z .before in
@@ -28,6 +29,7 @@ returns c =
       c .before .before .read-u329 .ensures,
       c .before .before .before .read-u328 .ensures,
       c .before .before .before .before .read-u327 .ensures,
+      w .security-in-range .ensures,
       g .minimum-in-range .ensures,
       m .read-u326 .ensures,
       z .shares-in-range .ensures,
@@ -51,4 +53,4 @@ is-sound-spec =
     (λ c κs. search needs) (λ c κs. search needs) (λ c κs. search needs) (λ c κs. search needs) (λ c κs. search needs)
     (λ c κs. search needs) (λ c κs. search needs) (λ c κs. search needs) (λ c κs. search needs) (λ c κs. search needs)
     (λ c κs. search needs) (λ c κs. search needs) (λ c κs. search needs) (λ c κs. search needs) (λ c κs. search needs)
-    (λ c κs. search needs) (λ c κs. search needs) (λ c κs. search needs) returns)
+    (λ c κs. search needs) (λ c κs. search needs) (λ c κs. search needs) (λ c κs. search needs) returns)

@@ -7,7 +7,8 @@ use Rattle.record.proofs.order_record.numbers_of.Tie as tie
 
 returns : tie.Need-returns
 returns c =
-    let h = c .before in
+    let r = c .before in
+    let h = r .before in
     let e = h .before in
     let m = e .before in
     let z = m .before in
@@ -15,9 +16,10 @@ returns c =
     let n = p .before in
     let k = n .before in
     let d = k .before in
-    let s = d .before .before .before .before .before .args .rec .now in
+    let s = d .before .before .before .before .before .before .args .rec .now in
     rw (
-      c .read-u326 .ensures,
+      c .wide4 .ensures .0,
+      r .read-u326 .ensures,
       h .read-u325 .ensures,
       e .wide3 .ensures .0,
       m .read-u324 .ensures,
@@ -30,12 +32,13 @@ returns c =
       from-one 2 s,
       from-one 3 s,
       from-one 20 s,
+      from-one 21 s,
     )
 
 pub numbers-of-spec : {M : Type 1} → statement M
 numbers-of-spec =
     tie.close
     (tie.spec
-    (λ c. search needs) (λ c. search needs) (λ c. search needs) (λ c κs. search needs) (λ c κs. search needs)
+    (λ c. search needs) (λ c. search needs) (λ c. search needs) (λ c. search needs) (λ c κs. search needs) (λ c κs. search needs)
     (λ c κs. search needs) (λ c κs. search needs) (λ c κs. search needs) (λ c κs. search needs) (λ c κs. search needs)
-    (λ c κs. search needs) (λ c κs. search needs) returns)
+    (λ c κs. search needs) (λ c κs. search needs) (λ c κs. search needs) returns)

@@ -1,0 +1,1 @@
+// What is proved of two securities in one book. No function is here.
