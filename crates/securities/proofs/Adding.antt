@@ -52,7 +52,7 @@ module _ (q : AddRequest) where
       ∙ rw (eq-eqb (q .security) (q .security) refl, sets-for lot os)
 
   -- and to no others
-  pub added-others : (lot : ℕ) (os : List Order) (j : ℕ) → ¬ (j ≡ q .security) → filter (ofSecurity j) (added lot q os) ≡ filter (ofSecurity j) os
+  added-others : (lot : ℕ) (os : List Order) (j : ℕ) → ¬ (j ≡ q .security) → filter (ofSecurity j) (added lot q os) ≡ filter (ofSecurity j) os
   unfolding added requested
   added-others lot os j n =
       filter-append (ofSecurity j) os (requested q (setsPrice lot (requested q false) os) ∷ [])

@@ -3,12 +3,9 @@ use Prim.Native.Nat.{ℕ}
 use mathlib.Core.Path.{_≡_, refl, sym, ap, ap₂, _∙_, subst}
 use mathlib.Core.Bool.{Bool, true, false, cond}
 use mathlib.Core.List.{List, map}
-use lib.Dec.{eqb}
 use borrow.Author.Tests.{eqb-true}
 use Rattle.units.specs.Lists.{orZero}
-use Rattle.units.specs.Lots.{roundLot}
 use Rattle.units.proofs.Members.{member-every, filter-all}
-use Rattle.orders.specs.declared.order.Order.{Order}
 use Rattle.orders.specs.Trading.{ofSecurity}
 use Rattle.book.specs.Sound.{sound, ordersOf, capacityOf}
 use Rattle.book.specs.Refusal.{Refusals, refusalOf, isAccepted, Changed}
@@ -21,7 +18,7 @@ use Rattle.entry.proofs.Reducing.{reductionOf, reduce-orders}
 use Rattle.matching.specs.declared.TakeRequest.{TakeRequest}
 use Rattle.matching.specs.TakeCall.{takeRefusals, outcomeOf, TakeAnswer, takeCall}
 use Rattle.matching.proofs.Taking.{take-orders}
-use Rattle.ladder.specs.Ladder.{ladderOf, madeOf, withLadder, ladderCall, Kept, TakeKept, keeping, addLadderCall, reduceLadderCall, takeLadderCall}
+use Rattle.ladder.specs.Ladder.{madeOf, withLadder, ladderCall, Kept, TakeKept, keeping, addLadderCall, reduceLadderCall, takeLadderCall}
 use Rattle.ladder.proofs.Forms.{form-accepted}
 use Rattle.securities.specs.LadderBefore.{madeBefore, keepingBefore, ladderBefore, addLadderBefore, reduceLadderBefore, takeLadderBefore}
 use Rattle.securities.proofs.BookBefore.{Only, sound-before}

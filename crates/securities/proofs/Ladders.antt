@@ -8,7 +8,7 @@ use borrow.Author.Tests.{eqb-true}
 use Rattle.units.specs.Lists.{sameNumbers, orZero}
 use Rattle.book.specs.Sound.{ordersOf, capacityOf}
 use Rattle.book.specs.Refusal.{Refusals, isAccepted}
-use Rattle.book.specs.Securities.{recordsFor, Result, NonInterfering, LeavesOthers}
+use Rattle.book.specs.Securities.{recordsFor, NonInterfering, LeavesOthers}
 use Rattle.entry.specs.declared.admission.AddRequest.{AddRequest}
 use Rattle.entry.specs.Add.{addRefusals, addCall}
 use Rattle.entry.specs.Reduce.{reduceRefusals, reduceCall}
@@ -17,7 +17,7 @@ use Rattle.matching.specs.declared.TakeRequest.{TakeRequest}
 use Rattle.matching.specs.TakeCall.{takeRefusals, outcomeOf, takeCall}
 use Rattle.ladder.specs.Ladder.{ladderOf, ladderRefusals, ladderCall, withLadder, keptLadder, addLadderCall, reduceLadderCall, takeLadderCall}
 use Rattle.ladder.proofs.Forms.{form-accepted}
-use Rattle.securities.specs.Calls.{addOn, reduceOn, takeOn, ladderOn, addLadderOn, reduceLadderOn, takeLadderOn}
+use Rattle.securities.specs.Calls.{takeOn, ladderOn, addLadderOn, reduceLadderOn, takeLadderOn}
 use Rattle.securities.proofs.Refusing.{SameRefusals, alike}
 use Rattle.securities.proofs.Records.{same-orders}
 use Rattle.securities.proofs.Keeping.{SameFor, Keeping, Changing, orders-same, keeps, same-records, leaves, form-changing}

@@ -25,7 +25,7 @@ use Rattle.securities.proofs.Records.{record-of}
 use Rattle.securities.proofs.Keeping.{Keeping, orders-same, same-of, keeps}
 
 -- check looks at the orders of the security alone
-pub check-keeping : (k : ℕ) → Keeping k (λ s. checkRefusals k) (checkOn k)
+check-keeping : (k : ℕ) → Keeping k (λ s. checkRefusals k) (checkOn k)
 unfolding checkCall
 check-keeping k = record {
   refusal = λ s. refl;
@@ -106,7 +106,7 @@ module _ (k n : ℕ) where
   unknown-for os = ap not (any-kept (ofSecurity k) (isNamed k n) (λ o e. rw e) os)
 
   -- find looks at the records of the security alone
-  pub find-keeping : Keeping k (λ s. findRefusals k n (ordersOf s)) (findOn k n)
+  find-keeping : Keeping k (λ s. findRefusals k n (ordersOf s)) (findOn k n)
   unfolding findCall
   find-keeping = record {
     refusal = λ s. refl;

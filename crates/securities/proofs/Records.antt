@@ -23,7 +23,7 @@ use Rattle.book.proofs.Soundness.{orders-sound}
 use Rattle.securities.proofs.Filters.{filter-map}
 
 -- byte 21 of a record is the security of its order
-pub security-read : (r : List ℕ) → decodeOrder form r .security ≡ getD r 21 0
+security-read : (r : List ℕ) → decodeOrder form r .security ≡ getD r 21 0
 unfolding orderOf
 security-read r = rw (decode-at (form .layout) r) (from-one 21 r)
 

@@ -48,7 +48,7 @@ module _ (k n shares : ℕ) where
   reduced-for os = settled-for after same-security k os
 
   -- and no others are
-  pub reduced-others : (os : List Order) → Every OrderSound os → (j : ℕ) → ¬ (j ≡ k) → filter (ofSecurity j) (reduced k n shares os) ≡ filter (ofSecurity j) os
+  reduced-others : (os : List Order) → Every OrderSound os → (j : ℕ) → ¬ (j ≡ k) → filter (ofSecurity j) (reduced k n shares os) ≡ filter (ofSecurity j) os
   unfolding reduced
   reduced-others os h j m = settled-others after same-security j os h (λ o i e. rw (other-security j k m o e))
 

@@ -1,7 +1,7 @@
 -- Take in a book of which every order is of security 0: as before there were securities.
 use Prim.Native.Nat.{ℕ}
 use mathlib.Core.Path.{_≡_, ap, _∙_}
-use mathlib.Core.Bool.{true, and-true}
+use mathlib.Core.Bool.{and-true}
 use mathlib.Core.List.{List, List·Memᴰ}
 use lib.Dec.{eqb}
 use Rattle.units.specs.Lists.{filter, zipWith}

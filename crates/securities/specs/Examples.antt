@@ -4,7 +4,7 @@ use Prim.Native.Nat.{ℕ, _+_, _*_}
 use mathlib.Core.Path.{_≡_, refl}
 use mathlib.Core.Bool.{Bool, true, false, not, _&&_}
 use mathlib.Core.List.{List, [], _∷_}
-use lib.ListN.{length, getD, take, drop, set, replicate}
+use lib.ListN.{getD, take, replicate}
 use lib.Dec.{eqb}
 use Rattle.units.specs.Lists.{all, flatMap, sameNumbers}
 use Rattle.sharing.specs.Round.{round, goesRound}
@@ -30,7 +30,7 @@ use Rattle.matching.specs.Take.{outcome, lossesOf, executionsOf, allocations, a
 use Rattle.matching.specs.TakeCall.{outcomeOf, written, takeCall}
 use Rattle.matching.specs.WayBy.{rowBy, rowsBy, levelsBy}
 use Rattle.ladder.specs.Rows.{rowOf, joined, rowsOf}
-use Rattle.ladder.specs.Ladder.{ladderOf, madeOf, ladderCall, addLadderCall, reduceLadderCall, takeLadderCall}
+use Rattle.ladder.specs.Ladder.{ladderOf, ladderCall, addLadderCall, reduceLadderCall, takeLadderCall}
 use Rattle.securities.specs.Calls.{checkOn, findOn, addOn, reduceOn, takeOn, ladderOn, addLadderOn, reduceLadderOn, takeLadderOn}
 use Rattle.securities.specs.BookBefore.{soundBefore, tellsBefore, encodeBefore, bookBefore, checkBefore, findBefore}
 use Rattle.securities.specs.EntryBefore.{addBefore, addedBefore, setsPriceBefore, reduceBefore, reducedBefore}

@@ -1,6 +1,6 @@
 -- Ladders as they were before there were securities: one for all orders of a book.
 use Prim.Native.Nat.{ℕ}
-use mathlib.Core.Bool.{Bool, cond, not}
+use mathlib.Core.Bool.{cond, not}
 use mathlib.Core.List.{List, [], _∷_}
 use Rattle.units.specs.Lists.{orZero, sameNumbers}
 use Rattle.units.specs.Lots.{roundLot}

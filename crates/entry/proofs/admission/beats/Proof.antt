@@ -1,4 +1,4 @@
--- `entry::admission::beats` meets its contract: its three tests are those of the definition.
+-- `entry::admission::beats` meets its contract: its four tests are those of the definition.
 use borrow.Author.Needs.{needs}
 use lib.ListN.{getD}
 use Rattle.record.specs.Record.{orderOf}
