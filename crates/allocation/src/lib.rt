@@ -1,5 +1,7 @@
 // An incoming order on its way through the parts of a book in their order: the groups of the rule are stretches of them, each filled whole or
 // shared.
+#![tactic(auto)]
+
 mod credit;
 mod share;
 mod stretch;
@@ -13,7 +15,7 @@ use units::Shares;
 
 // How far an incoming order has come: what is left of it, and how many fills it has. These are in lent memory: a fill is a part with the
 // shares that it got, and beside them stands, for each record of the book, what its order got of each visibility.
-#[derive(Drop)]
+#[derive(Clone, Copy)]
 pub struct Progress {
     pub incoming: Incoming,
     pub count: usize,

@@ -1,4 +1,6 @@
 // The cases of the scope, those of reserve orders, and those of two securities in one book, run on lent bytes.
+#![tactic(auto)]
+
 mod report;
 
 use entry::admission::AddRequest;

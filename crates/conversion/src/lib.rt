@@ -1,5 +1,7 @@
 // The calls that turn a book into the other form of record, in another buffer: the book is only read, and the target is written when all is
 // decided.
+#![tactic(auto)]
+
 mod old;
 mod turning;
 

@@ -1,4 +1,6 @@
 // convert: reads a book from standard input and writes it in the other form to standard output.
+#![tactic(auto)]
+
 ghost use Rattle.std.specs.Prelude.{◌≤◌};
 
 use libc::STDOUT_FILENO;

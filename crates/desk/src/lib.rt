@@ -1,4 +1,6 @@
 // A desk that a fillsheet's commands are given to: a book, a buffer for executions, and an algorithm.
+#![tactic(auto)]
+
 ghost use Rattle.std.specs.Prelude.{◌≡◌};
 ghost use Rattle.desk.specs.Desk.{desk_of, refused_or, performed};
 
@@ -10,7 +12,7 @@ use script::command::Command;
 const SECURITY: u32 = 0;
 
 // What a command answers: nothing, its refusal, or how many executions a take wrote and the shares left.
-#[derive(Drop)]
+#[derive(Clone, Copy)]
 pub enum Answer {
     Silent,
     Refused(u32),
@@ -18,7 +20,7 @@ pub enum Answer {
 }
 
 // The answer, and the algorithm from here on.
-#[derive(Drop)]
+#[derive(Clone, Copy)]
 pub struct Performance {
     pub answer: Answer,
     pub algorithm: u32,

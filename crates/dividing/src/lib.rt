@@ -1,5 +1,7 @@
 // How a group, the orders at one price in one paragraph, divides fewer shares than it has. Its orders are lent as columns of numbers in the
 // order of place, which is by time; the columns of sizes and minimums are spent.
+#![tactic(auto)]
+
 ghost use Rattle.std.specs.Prelude.{◌≡◌, List};
 ghost use Rattle.sharing.specs.Rank.{Part};
 ghost use Rattle.sharing.specs.Method.{allot_by};

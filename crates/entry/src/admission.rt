@@ -16,7 +16,7 @@ use units::{Price, Shares};
 
 // The numbers that add is given. The size of a reserve order is the shares that it shows.
 #[repr(C)]
-#[derive(Drop)]
+#[derive(Clone, Copy)]
 pub struct AddRequest {
     pub side: u32,
     pub kind: u32,
@@ -30,7 +30,7 @@ pub struct AddRequest {
 }
 
 // A refusal, or the order that comes in and where its record goes.
-#[derive(Drop)]
+#[derive(Clone, Copy)]
 pub enum Admission {
     Refused(u32),
     Admitted(usize, Order),
@@ -38,7 +38,7 @@ pub enum Admission {
 
 // How a new order stands to those of the book: whether its number is not above all of theirs, whether it could trade with one of them,
 // and whether it beats each.
-#[derive(Drop)]
+#[derive(Clone, Copy)]
 pub struct Standing {
     pub stale: bool,
     pub trades: bool,

@@ -1,4 +1,6 @@
 // The calls that enter and reduce resting orders. Each decides by value, from bytes that it only reads, and then writes what was decided.
+#![tactic(auto)]
+
 pub mod admission;
 pub mod reduction;
 

@@ -11,7 +11,7 @@ use orders::range;
 use units::Shares;
 
 // A refusal; the order that is left, with the place of its record; or the place of the record of an order that leaves.
-#[derive(Drop)]
+#[derive(Clone, Copy)]
 pub enum Reduction {
     Refused(u32),
     Kept(usize, Order),

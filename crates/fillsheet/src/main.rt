@@ -1,4 +1,6 @@
 // fillsheet: reads commands to a book from standard input, a line each, and writes what each answers.
+#![tactic(auto)]
+
 ghost use Rattle.std.specs.Prelude.{◌+◌, ◌≤◌, length};
 
 use desk::Answer;

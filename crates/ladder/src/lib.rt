@@ -1,5 +1,7 @@
 // The depth ladder: totals for each side and price of a security, kept beside a book. The call that makes one, and the forms of add, reduce
 // and take that keep it: each makes the decisions of the plain call, after it saw that the ladder is the book's.
+#![tactic(auto)]
+
 mod row;
 mod rows;
 
@@ -44,7 +46,7 @@ pub fn ladder(book: &[u8], ladder: &mut [u8], security: u32) -> u32
 }
 
 // What the forms see of book and ladder before they decide: refusals 2, 9 and 10, the number of records in use, and that of the security's rows.
-#[derive(Drop)]
+#[derive(Clone, Copy)]
 struct Seen {
     refusal: u32,
     records: usize,

@@ -11,7 +11,7 @@ use units::{Price, Shares};
 pub const ROW_BYTES: usize = 24;
 
 // The displayed and the other shares of its orders, and their number.
-#[derive(Drop)]
+#[derive(Clone, Copy)]
 pub struct Row {
     pub side: Side,
     pub price: Price,

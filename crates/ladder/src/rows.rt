@@ -93,7 +93,7 @@ fn write_row(ladder: &mut [u8], place: usize, row: Row)
 }
 
 // A level's row, and the place of the next level's first key.
-#[derive(Drop)]
+#[derive(Clone, Copy)]
 struct Level {
     row: Row,
     end: usize,
@@ -148,7 +148,7 @@ fn has_row(ladder: &[u8], place: usize, row: Row) -> bool
 }
 
 // How many rows there are, and whether the ladder begins with them.
-#[derive(Drop)]
+#[derive(Clone, Copy)]
 pub(crate) struct Held {
     pub rows: usize,
     pub same: bool,

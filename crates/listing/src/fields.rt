@@ -6,7 +6,7 @@ ghost use Rattle.listing.specs.Listing.{field, Placed};
 use record::bytes;
 
 // The field is what stands from `start` on.
-#[derive(Drop)]
+#[derive(Clone, Copy)]
 pub struct Field {
     pub start: usize,
     pub bytes: [u8; 11],

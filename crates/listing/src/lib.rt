@@ -1,4 +1,6 @@
 // The lines that a fillsheet writes, as bytes at the start of a buffer.
+#![tactic(auto)]
+
 mod fields;
 
 ghost use Rattle.std.specs.Prelude.{◌++◌, ◌+◌, ◌≤◌, length, drop};

@@ -1,4 +1,6 @@
 // The calls that only read a book: check and find.
+#![tactic(auto)]
+
 mod place;
 mod setters;
 mod sound;

@@ -6,7 +6,7 @@ use orders::order::Taker;
 use units::Shares;
 
 // An incoming order goes by value: whom it may trade with, and the shares that it still wants.
-#[derive(Drop)]
+#[derive(Clone, Copy)]
 pub struct Incoming {
     pub taker: Taker,
     pub size: Shares,

@@ -1,4 +1,6 @@
 // Taking: an incoming order against a book, under one of three algorithms.
+#![tactic(auto)]
+
 pub mod incoming;
 
 ghost use Rattle.std.specs.Prelude.{◌≡◌};
@@ -8,7 +10,7 @@ ghost use Rattle.matching.specs.Numbered.{paragraph_numbered};
 use sharing::{Method, Rank};
 
 // The execution algorithms of Rule 3307. PriceSetter is pro rata with the variation for price-setting orders.
-#[derive(Drop)]
+#[derive(Clone, Copy)]
 pub enum Algorithm {
     PriceTime,
     ProRata,
@@ -31,7 +33,7 @@ impl Algorithm {
 }
 
 // The paragraphs of the rule that say who shares, in their order.
-#[derive(Drop)]
+#[derive(Clone, Copy)]
 pub enum Paragraph {
     Two,
     Three,
@@ -106,7 +108,7 @@ impl Paragraph {
 
 // The numbers that take is given.
 #[repr(C)]
-#[derive(Drop)]
+#[derive(Clone, Copy)]
 pub struct TakeRequest {
     pub side: u32,
     pub limit: u32,
@@ -117,7 +119,7 @@ pub struct TakeRequest {
 
 // What take answers: its refusal, how many executions it wrote, and the shares left.
 #[repr(C)]
-#[derive(Drop)]
+#[derive(Clone, Copy)]
 pub struct Taken {
     pub refusal: u32,
     pub count: u32,

@@ -1,4 +1,6 @@
 // How many records move when orders leave a full book, by the step that closes the gaps.
+#![tactic(auto)]
+
 ghost use Rattle.std.specs.Prelude.{◌≡◌, ◌≤◌, ◌<◌, length};
 
 use book::records;

@@ -5,7 +5,7 @@ ghost use Rattle.orders.specs.Order.{interest, interest_of, all_shares, refreshe
 
 use units::{Price, Shares};
 
-#[derive(Drop)]
+#[derive(Clone, Copy)]
 pub enum Side {
     Buy,
     Sell,
@@ -32,7 +32,7 @@ impl Side {
 
 // Only a minimum quantity order carries a minimum, and only a reserve order hidden shares, behind those that it shows, and a refresh size.
 // The two that count as displayed stand together: whether a kind is one of them is one comparison.
-#[derive(Drop)]
+#[derive(Clone, Copy)]
 pub enum Kind {
     Displayed,
     Reserve(Shares, Shares),
@@ -114,7 +114,7 @@ impl Kind {
 }
 
 // An order number is also the order's time: a lower one is earlier. The size of a reserve order is the shares that it shows.
-#[derive(Drop)]
+#[derive(Clone, Copy)]
 pub struct Order {
     pub side: Side,
     pub kind: Kind,
@@ -126,7 +126,7 @@ pub struct Order {
 }
 
 // Displayed and non-displayed shares.
-#[derive(Drop)]
+#[derive(Clone, Copy)]
 struct Interest {
     displayed: Shares,
     others: Shares,
@@ -211,6 +211,7 @@ impl Order {
 
     // The order after it lost displayed and non-displayed shares: a minimum above the new size becomes the new size, and a reserve order
     // that shows nothing any more is refreshed.
+    #[tactic(auto, unfolding(crate::specs::Order::settled, crate::specs::Order::with_interest))]
     pub fn settled(self, shown: Shares, hidden: Shares) -> Order
         ensures { result ≡ settled (interest shown.0 hidden.0) self }
     {
@@ -238,7 +239,7 @@ impl Order {
 }
 
 // An order seen as a taker of liquidity: its side, the worst price that it trades at, and its security.
-#[derive(Drop)]
+#[derive(Clone, Copy)]
 pub struct Taker {
     pub side: Side,
     pub limit: Price,

@@ -1,5 +1,7 @@
 // The parts of a book's orders that an incoming order may trade with, in the order in which it meets them: by price, by paragraph, by time.
 // A part is what of an order stands in one paragraph's group.
+#![tactic(auto)]
+
 mod best;
 pub mod key;
 pub mod visible;

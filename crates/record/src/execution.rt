@@ -9,7 +9,7 @@ use units::{Price, Shares};
 pub const EXECUTION_BYTES: usize = 16;
 
 // The resting order's number, its price, the shares executed, and the paragraph of the rule that gave them.
-#[derive(Drop)]
+#[derive(Clone, Copy)]
 pub struct Execution {
     pub number: u32,
     pub price: Price,

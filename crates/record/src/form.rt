@@ -9,7 +9,7 @@ pub const NEW_MARK: [u8; 2] = *b"OC";
 pub const OLD_MARK: [u8; 2] = *b"OB";
 
 // The form of older books, and that of all calls but the conversions.
-#[derive(Drop)]
+#[derive(Clone, Copy)]
 pub enum RecordForm {
     Old,
     New,

@@ -1,4 +1,6 @@
 // Orders and executions as bytes. Knows nothing of books.
+#![tactic(auto)]
+
 pub mod bytes;
 pub mod execution;
 pub mod form;

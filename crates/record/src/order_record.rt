@@ -13,7 +13,7 @@ use orders::range;
 use units::{Price, Shares};
 
 // The numbers of a record that say its order.
-#[derive(Drop)]
+#[derive(Clone, Copy)]
 pub struct Numbers {
     pub side: u32,
     pub kind: u32,

@@ -1,4 +1,6 @@
 // The calls under the names and in the shapes that C has (include/ruhvasto.h), and the version of that interface.
+#![tactic(auto)]
+
 ghost use Rattle.std.specs.Prelude.{◌≡◌, true, ◌+◌, ◌≤◌, length};
 ghost use Rattle.book.specs.Lookup.{orders_for, check_call, find_call};
 ghost use Rattle.record.specs.Record.{new_form, old_form};

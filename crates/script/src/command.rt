@@ -7,7 +7,7 @@ use crate::field::{Field, Value};
 use crate::{field, text};
 
 // A command to a book, its numbers as they stand in the line; Nothing is what no command is.
-#[derive(Drop)]
+#[derive(Clone, Copy)]
 pub enum Command {
     Choose(u32),
     Add {
@@ -31,7 +31,7 @@ pub enum Command {
 }
 
 // Whether the fields of a line are those of a form, and what each stands for.
-#[derive(Drop)]
+#[derive(Clone, Copy)]
 pub struct Readings {
     pub fits: bool,
     pub values: [u32; 6],

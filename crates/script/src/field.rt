@@ -4,14 +4,14 @@ ghost use Rattle.std.specs.Prelude.{◌≡◌, ◌&&◌, ◌-◌, ◌≤◌, eqb
 ghost use Rattle.script.specs.Field.{is_digit, digits_from, number_in, letter_or, meaning};
 
 // What a field stands for: a number, or nothing that a command has a use for.
-#[derive(Drop)]
+#[derive(Clone, Copy)]
 pub enum Value {
     Of(u32),
     Nothing,
 }
 
 // What a command has in a place.
-#[derive(Drop)]
+#[derive(Clone, Copy)]
 pub enum Field {
     // This letter.
     Letter(u8),

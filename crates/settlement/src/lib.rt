@@ -1,4 +1,6 @@
 // What a take has decided is written: its executions, and the book without the shares that its orders lost.
+#![tactic(auto)]
+
 mod executions;
 pub mod settling;
 

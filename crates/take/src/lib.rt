@@ -1,4 +1,6 @@
 // The call take. It decides first, from a book that it only reads and into memory of its own, and then writes what was decided.
+#![tactic(auto)]
+
 ghost use Rattle.std.specs.Prelude.{◌≡◌, true, ℕ, ◌≤◌, get_or};
 ghost use Rattle.book.specs.Sound.{sound};
 ghost use Rattle.matching.specs.TakeCall.{request_in_range, incoming_of, take_call};

@@ -1,18 +1,20 @@
 // Shares, round lots and prices, counted apart: one is never taken for another.
+#![tactic(auto)]
+
 ghost use Rattle.std.specs.Prelude.{◌≡◌, ◌+◌, ◌-◌, ◌*◌, ◌/◌, ◌^◌, ◌≤◌, ◌<◌, min};
 ghost use Rattle.units.specs.Lists.{in_range, or_zero};
 ghost use Rattle.units.specs.Lots.{round_lot};
 
 // A count of shares.
-#[derive(Drop)]
+#[derive(Clone, Copy)]
 pub struct Shares(pub u32);
 
 // A count of round lots.
-#[derive(Drop)]
+#[derive(Clone, Copy)]
 pub struct Lots(pub u32);
 
 // A price in ten-thousandths of a dollar.
-#[derive(Drop)]
+#[derive(Clone, Copy)]
 pub struct Price(pub u32);
 
 // The smaller of two counts.
