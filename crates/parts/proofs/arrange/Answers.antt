@@ -10,10 +10,10 @@ pub returns-then-rises : goal.returns-then-rises
 returns-then-rises c =
     (
       c.collect-all.ensures.0,
-      arranged_rising c.args.lot.0 c.args.algorithm c.args.incoming (orders_of c.args.book.now) (take c.collect-all.result c.collect-all.new.1.1.1.1.1.0)
+      arranged_rising c.args.lot.0 c.args.algorithm c.args.incoming (orders_of c.args.book.now) (take c.collect-all.result c.collect-all.new.keys)
           c.collect-all.ensures.1 (c.rises.ensures c.if-rises.true),
     )
 
 pub narrow-needed-requires : goal.narrow-needed-requires
 narrow-needed-requires c =
-    omega (arith, length-take c.collect-all.result c.collect-all.new.1.1.1.1.1.0, sound_fits c.args.book.now c.requires.0)
+    omega (arith, length-take c.collect-all.result c.collect-all.new.keys, sound_fits c.args.book.now c.requires.0)

@@ -13,10 +13,8 @@ use Rattle.parts.specs.Parts.{keys_from}
 use Rattle.parts.proofs.Keeping.{parts_more, parts_done}
 use Rattle.parts.proofs.collect.Goals as goal
 
-mul-numbers-at : tie.Need-overflow-mul-numbers-at invariant-loop decreases-loop
-mul-numbers-at c =
-    let s = c.before.before.before.before.before in
-    omega (arith, sound_fits s.args.book.now s.requires.0)
+pub overflow_mul-i : goal.overflow_mul-i
+overflow_mul-i c = omega (arith, sound_fits c.args.book.now c.requires.0)
 
 pub numbers_at-numbers-requires : goal.numbers_at-numbers-requires
 numbers_at-numbers-requires c =
@@ -55,4 +53,3 @@ returns c =
           ∙ ap (λ ks. take c.loop-i.count c.loop-i.keys ++ ks) (sym d)
           ∙ c.loop-i.invariant.3 c.args.algorithm c.paragraph_numbers-paragraphs.ensures.1,
     )
-

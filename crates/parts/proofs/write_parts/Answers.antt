@@ -16,18 +16,6 @@ use Rattle.parts.proofs.Keeping.{kept_two}
 use Rattle.parts.proofs.Reading.{numbers_fit, parts_one, parts_two}
 use Rattle.parts.proofs.write_parts.Goals as goal
 
--- the order is one more key for each of its parts where the incoming order may meet it
-met : (p : tie.After-part-of) (o : Order) → OrderSound o
-    → let a = p.before.before.before.before.before.before.args in
-    a.numbers ≡ named_numbers (numbers_of o) → p.before.one-if.result ≡ or_zero (may_meet a.incoming o) 1
-met p o h e = p.before.one-if.ensures.0 ∙ ap (λ b. or_zero b 1) (p.before.before.may-meet.ensures o h e)
-
-mul-keys-2 : tie.Need-overflow-mul-keys-2
-mul-keys-2 c =
-    let n = c.before.before.before.before in
-    let s = n.before.before.before.before.before in
-    omega (arith, n.one-if.ensures.1, s.requires.4, s.well-formed.1.1.1.1.1.0)
-
 pub part_of-requires : goal.part_of-requires
 part_of-requires c =
     let f = numbers_fit c.args.numbers c.requires.3.0 c.requires.3.2 c.requires.3.1 in
@@ -39,7 +27,7 @@ returns-then-numbers-eq0 c =
       search rules,
       omega (arith, c.one_if-met.ensures.1),
       λ o alg others h e t.
-          rw (met c o h e)
+          rw (c.one_if-met.ensures.0 ∙ ap (λ b. or_zero b 1) (c.may_meet.ensures o h e))
           (kept_more (may_meet c.args.incoming o) c.args.keys.now c.args.count c.part_of.result others (omega arith)
           ∙ ap (λ ks. take c.args.count c.args.keys.now ++ ks)
           (parts_one c.args.numbers o e h c.args.lot.0 alg c.args.incoming c.args.place c.part_of.result others (λ k q. c.part_of.ensures k alg q t) c.if-numbers-eq0.true)),
@@ -56,10 +44,9 @@ returns c =
       search rules,
       omega (arith, c.one_if-met.ensures.1),
       λ o alg others h e t.
-          rw (met c o h e)
+          rw (c.one_if-met.ensures.0 ∙ ap (λ b. or_zero b 1) (c.may_meet.ensures o h e))
           (kept_two (may_meet c.args.incoming o) c.args.keys.now c.args.count c.part_of.result c.part_of-2.result others (omega arith)
           ∙ ap (λ ks. take c.args.count c.args.keys.now ++ ks)
           (parts_two c.args.numbers o e h c.args.lot.0 alg c.args.incoming c.args.place c.part_of.result c.part_of-2.result others
           (λ k q. c.part_of.ensures k alg q t) (c.part_of-2.ensures NonDisplayed alg refl t) c.if-numbers-eq0.false)),
     )
-

@@ -11,7 +11,7 @@ pub returns-then-size-total : goal.returns-then-size-total
 returns-then-size-total c =
     (
       c.keep.ensures.0,
-      narrowed_best c.args.algorithm c.args.size.0 c.lowest.result c.rank-rank.result c.args.keys.now (take c.keep.result c.keep.new.0) c.lowest.ensures
+      narrowed_best c.args.algorithm c.args.size.0 c.lowest.result c.rank-rank.result c.args.keys.now (take c.keep.result c.keep.new.keys) c.lowest.ensures
           c.rank-rank.ensures (omega (arith, c.free_total-total.ensures)) c.keep.ensures.1,
     )
 
