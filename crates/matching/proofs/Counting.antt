@@ -98,6 +98,7 @@ number_once m (o ∷ os) r n c = go (eqb o.number n) refl (number_once o.number 
 
 -- and orders of one number are one
 pub number_alone : (m : ℕ) (os : List Order) → rising m os ≡ true → (a b : Order) → Memᴰ a os → Memᴰ b os → a.number ≡ b.number → a ≡ b
+number_alone m [] r a b x4 _ e = elim x4 [ ]
 number_alone m (o ∷ os) r a b (Memᴰ.head h) (Memᴰ.head k) e = h ∙ sym k
 number_alone m (o ∷ os) r a b (Memᴰ.head h) (Memᴰ.tail k) e =
     absurd (omega (arith, later_above m o os r b k, ap (λ (y : Order). y.number) h))

@@ -44,6 +44,8 @@ module _ (P : Part → ℕ → Type 0) (part : Order → Part) where
   pub pick : (m : ℕ) (os : List Order) → rising m os ≡ true → (ns : List ℕ) → Each P (map part os) ns → (o : Order) → Memᴰ o os
       → P (part o) (share_in o.number os ns)
   unfolding share_in
+  pick m [] r ns _ o x4 = elim x4 [ ]
+  pick m (x ∷ os) r [] x7 o _ = elim x7 [ ]
   pick m (x ∷ os) r (n ∷ ns) (more h e) o (Memᴰ.head k) =
       let a = and_true (ltb m x.number) (rising x.number os) r in
       subst⁻¹ (λ (y : Order). P (part y) (share_in y.number (x ∷ os) (n ∷ ns))) k

@@ -42,6 +42,7 @@ behind x os s y i h =
 -- of marked orders at one side and price there is one
 one_marked : (os : List Order) → setters_sound os ≡ true → (a b : Order) → Memᴰ a os → Memᴰ b os → same_setter a b ≡ true → same_setter b a ≡ true
     → a ≡ b
+one_marked [] s a b x5 _ h k = elim x5 [ ]
 one_marked (x ∷ os) s a b (Memᴰ.head e) (Memᴰ.head f) h k = e ∙ sym f
 one_marked (x ∷ os) s a b (Memᴰ.head e) (Memᴰ.tail j) h k = absurd (behind x os s b j (ap (λ (y : Order). same_setter y b) (sym e) ∙ h))
 one_marked (x ∷ os) s a b (Memᴰ.tail i) (Memᴰ.head f) h k = absurd (behind x os s a i (ap (λ (y : Order). same_setter y a) (sym f) ∙ k))

@@ -133,6 +133,7 @@ module _ (lot : ℕ) (alg : Algorithm) (t : Taker) (os : List Order) (rise : ris
           → (gs : List Paragraph) → Once x gs → (l : ℕ) → total used (level price gs l) < l
           → Met (l - total used (level price gs l)) (whole_part v o) (total (lost os v o) (level price gs l))
       unfolding allocations_at
+      rows_met price x e f [] x3 l k = elim x3 [ ]
       rows_met price x e f (g ∷ gs) (inl (s, h)) l k =
           let r = row price g l in
           let m = row_met price g l (ap (stands_at price) s ∙ e) (omega arith) in

@@ -93,6 +93,7 @@ module _ (t : Taker) (os : List Order) where
   levels_have o m e = go (filter (is_tradable t) os) (member_filter (is_tradable t) os o m e)
     where
       go : (xs : List Order) → Memᴰ o xs → Memᴰ (price_of o) (foldr (λ o ps. insert_price t.side (price_of o) ps) [] xs)
+      go [] x' = elim x' [ ]
       go (x ∷ xs) (Memᴰ.head k) =
           insert_have t.side (price_of x) (price_of o) (foldr (λ o ps. insert_price t.side (price_of o) ps) [] xs) (Memᴰ.head (ap price_of k))
       go (x ∷ xs) (Memᴰ.tail k) =

@@ -50,17 +50,21 @@ module _ {A : Type 0} where
   zip_beside f (x ∷ xs) (o ∷ os) y (Memᴰ.tail m) = let r = zip_beside f xs os y m in (r.0, r.1, next r.2, r.3)
 
   beside_same : {c x : A} (os : List Order) {o : Order} → Beside os (map (λ p. c) os) o x → x ≡ c
+  beside_same {c = c} [] {o = o} x'' = elim x'' [ ]
   beside_same (o ∷ os) first = refl
   beside_same (o ∷ os) (next b) = beside_same os b
 
 module _ {A B : Type 0} where
   beside_map : (f : A → B) {os : List Order} (xs : List A) {o : Order} {y : B} → Beside os (map f xs) o y → (x : A) × Beside os xs o x × (y ≡ f x)
+  beside_map f {os = os} [] {o = o} {y = y} x' = elim x' [ ]
   beside_map f (x ∷ xs) first = (x, first, refl)
   beside_map f (x ∷ xs) (next b) = let r = beside_map f xs b in (r.0, next r.1, r.2)
 
 module _ {A B C : Type 0} where
   beside_zip : (f : A → B → C) {os : List Order} (xs : List A) (ys : List B) {o : Order} {z : C} → Beside os (zip_with f xs ys) o z
       → (x : A) × (y : B) × Beside os xs o x × Beside os ys o y × (z ≡ f x y)
+  beside_zip f {os = os} [] ys {o = o} {z = z} x' = elim x' [ ]
+  beside_zip f {os = os} (x ∷ xs) [] {o = o} {z = z} x4 = elim x4 [ ]
   beside_zip f (x ∷ xs) (y ∷ ys) first = (x, y, first, first, refl)
   beside_zip f (x ∷ xs) (y ∷ ys) (next b) = let r = beside_zip f xs ys b in (r.0, r.1, next r.2, next r.3, r.4)
 

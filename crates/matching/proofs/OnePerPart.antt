@@ -34,11 +34,13 @@ next_at x k =
 -- Executions of a buffer that pass a test.
 module _ (p : Execution → Bool) where
   none_at : (n : ℕ) (x : List ℕ) → how_many p (executions_in n x) ≡ 0 → (k : ℕ) → k < n → p (execution_at x k) ≡ true → ⊥
+  none_at zero x h k l e = elim l [ ]
   none_at (suc n) x h zero l e = omega (arith, ap (λ b. or_zero b 1) e)
   none_at (suc n) x h (suc k) l e = none_at n (drop execution_bytes x) (omega arith) k (omega arith) (ap p (sym (next_at x k)) ∙ e)
 
   -- where one at most does, two that do are one
   one_at : (n : ℕ) (x : List ℕ) → how_many p (executions_in n x) ≤ 1 → (j k : ℕ) → j < n → k < n → p (execution_at x j) ≡ true → p (execution_at x k) ≡ true → j ≡ k
+  one_at zero x h j k a b e f = elim a [ ]
   one_at (suc n) x h zero zero a b e f = refl
   one_at (suc n) x h zero (suc k) a b e f =
       absurd (none_at n (drop execution_bytes x) (omega (arith, ap (λ b. or_zero b 1) e)) k (omega arith) (ap p (sym (next_at x k)) ∙ f))

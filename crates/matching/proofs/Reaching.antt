@@ -101,6 +101,7 @@ module _ (lot : ℕ) (alg : Algorithm) (t : Taker) (os : List Order) (rise : ris
   got_over : (prices : List ℕ) → Sorted t.side prices → Memᴰ (price_of o) prices → (left : ℕ)
       → got (over prices left) ≡ share (left - before (over prices left))
   unfolding allocations_over
+  got_over [] s x'' left = elim x'' [ ]
   got_over (q ∷ qs) s (Memᴰ.head e) left =
       subst (λ (p : ℕ). Every (λ x. is_better t.side p x ≡ true) qs → got (over (p ∷ qs) left) ≡ share (left - before (over (p ∷ qs) left))) e first s.0
     where

@@ -20,6 +20,7 @@ Fits (w ∷ ws) (n ∷ ns) = (n < 256 ^ w) × Fits ws ns
 -- numbers that fit more widths fit the first of these, as far as they go
 pub fits_first : (ws vs ns : List ℕ) → Fits (ws ++ vs) ns → Fits ws (take (length ws) ns)
 fits_first [] vs ns h = tt
+fits_first (w ∷ ws) vs [] h = elim h [ ]
 fits_first (w ∷ ws) vs (n ∷ ns) h = (h.0, fits_first ws vs ns h.1)
 
 -- each is a byte
@@ -86,6 +87,8 @@ length_split (w ∷ ws) s = ap suc (length_split ws (drop w s))
 
 -- a row of numbers that fit is read back as it was written, whatever stands behind it
 pub split_join : (ws ns t : List ℕ) → Fits ws ns → split ws (join ws ns ++ t) ≡ ns
+split_join [] (n ∷ ns) t h = elim h [ ]
+split_join (w ∷ ws) [] t h = elim h [ ]
 split_join [] [] t h = refl
 split_join (w ∷ ws) (n ∷ ns) t h =
     let l = length_bytes w n in

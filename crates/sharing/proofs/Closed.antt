@@ -74,6 +74,7 @@ module _ (before : Part → Part → Bool) where
       takes_in : (p : Part) (qs : List Part) → Pairwise Behind qs → Pairwise Differ qs → Every P qs → Memᴰ p qs → (left : ℕ)
           → goes_round want left qs p.number ≡ taking want (left - ahead want p qs) p
       unfolding goes_round
+      takes_in p [] s d z k left = elim k [ ]
       takes_in p (q ∷ qs) s d z (Memᴰ.head e) left =
           subst⁻¹ (λ (x : Part). goes_round want left (q ∷ qs) x.number ≡ taking want (left - ahead want x (q ∷ qs)) x) e
           (rw (eq-eqb q.number q.number refl, absent want q.number qs d.0 (left - taking want left q), itself q, none_ahead q qs s.0, sub-zero)

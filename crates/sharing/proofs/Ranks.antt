@@ -94,6 +94,7 @@ module _ (before : Part → Part → Bool) where
 
   -- ranking keeps the members
   pub mem_ranked : (x : Part) (ps : List Part) → Memᴰ x ps → Memᴰ x (ranked before ps)
+  mem_ranked x [] m = elim m [ ]
   mem_ranked x (p ∷ ps) (Memᴰ.head e) = mem_place x p (ranked before ps) (Memᴰ.head e)
   mem_ranked x (p ∷ ps) (Memᴰ.tail m) = mem_place x p (ranked before ps) (Memᴰ.tail (mem_ranked x ps m))
 
@@ -126,6 +127,7 @@ differ_ranked before = pairwise_ranked before Differ (λ p q l e f. omega arith)
 
 -- where numbers rise, a number has one part
 pub same_number : (m : ℕ) (ps : List Part) → Rising m ps → (p q : Part) → Memᴰ p ps → Memᴰ q ps → p.number ≡ q.number → p ≡ q
+same_number m [] r p q i _ h = elim i [ ]
 same_number m (x ∷ xs) r p q (Memᴰ.head e) (Memᴰ.head f) h = e ∙ sym f
 same_number m (x ∷ xs) r p q (Memᴰ.head e) (Memᴰ.tail j) h =
     let l = every_member (λ y. x.number < y.number) xs (rising_above x.number xs r.1) q j in

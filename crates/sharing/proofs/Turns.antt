@@ -47,6 +47,7 @@ none_once n x (p ∷ ps) a = let h = a.0 in rw (ne_eqb n p.number (λ e. omega a
 
 -- where numbers rise, a number that stands at one of them stands there once
 pub once : (m : ℕ) (ps : List Part) → Rising m ps → (q : Part) → Memᴰ q ps → (x : ℕ) → total (λ p. or_zero (eqb q.number p.number) x) ps ≡ x
+once m [] r q k x = elim k [ ]
 once m (y ∷ ys) r q (Memᴰ.head e) x =
     subst⁻¹ (λ (z : Part). total (λ p. or_zero (eqb z.number p.number) x) (y ∷ ys) ≡ x) e
     (rw (eq-eqb y.number y.number refl, none_once y.number x ys (rising_above y.number ys r.1)) (add-zero x))
@@ -64,6 +65,7 @@ module _ (want : Part → ℕ) where
   -- a part of the round takes what it may of what it meets, and what remains in the end is no more than it leaves
   pub turn : (p : Part) (qs : List Part) → Pairwise Differ qs → Memᴰ p qs → (left : ℕ) → Turn want p (remains want left qs) (goes_round want left qs p.number)
   unfolding goes_round
+  turn p [] d k left = elim k [ ]
   turn p (q ∷ qs) d (Memᴰ.head e) left =
       subst⁻¹ (λ (x : Part). Turn want x (remains want left (q ∷ qs)) (goes_round want left (q ∷ qs) x.number)) e
       (record {

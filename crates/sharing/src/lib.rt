@@ -2,7 +2,6 @@
 // dividing.
 #![tactic(auto)]
 
-
 // Who has its turn first: the earlier, the larger, or the one of the smaller minimum; between equals the earlier.
 #[derive(Clone, Copy)]
 pub enum Rank {
