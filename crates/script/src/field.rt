@@ -58,6 +58,7 @@ fn digits_in(field: &[u8]) -> Value
     Value::Of(n as u32)
 }
 
+#[tactic(auto, unfolding(crate::specs::Field::number_in))]
 fn number_in(field: &[u8]) -> Value
     ensures { result ≡ number_in field.now }
 {
@@ -81,6 +82,7 @@ fn is_letter(field: &[u8], letter: u8) -> bool
 }
 
 // A field that is this letter stands for n, any other for what is given.
+#[tactic(auto, unfolding(crate::specs::Field::letter_or))]
 fn letter_or(letter: u8, n: u32, other: Value, field: &[u8]) -> Value
     ensures { result ≡ letter_or letter n other field.now }
 {
@@ -92,6 +94,7 @@ fn letter_or(letter: u8, n: u32, other: Value, field: &[u8]) -> Value
 }
 
 // What a field stands for where a command has this in its place.
+#[tactic(auto, unfolding(crate::specs::Field::meaning))]
 pub fn read(place: Field, field: &[u8]) -> Value
     ensures { result ≡ meaning place field.now }
 {

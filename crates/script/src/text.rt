@@ -3,6 +3,7 @@ ghost use Rattle.std.specs.Prelude.{◌≡◌, cond, ◌+◌, ◌≤◌, ◌<◌
 ghost use Rattle.script.specs.Text.{span, FirstLine};
 
 // Where the part of a text that begins at a place ends: at the next byte b, or at the text's end.
+#[tactic(auto, using(crate::proofs::Cutting::span_more, crate::proofs::Cutting::span_stop, crate::proofs::Cutting::span_done))]
 pub(crate) fn end_of(text: &[u8], at: usize, b: u8) -> usize
     requires { at ≤ length text.now }
     ensures { (result ≡ at + span b (drop at text.now)) × (result ≤ length text.now) }
@@ -18,6 +19,7 @@ pub(crate) fn end_of(text: &[u8], at: usize, b: u8) -> usize
 }
 
 // Where the first line of a text from a place on ends.
+#[tactic(auto, using(crate::proofs::Cutting::line_here))]
 pub fn line_end(text: &[u8], at: usize) -> usize
     requires { at < length text.now }
     ensures { FirstLine text.now at result }
