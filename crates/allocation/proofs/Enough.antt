@@ -70,6 +70,8 @@ module _ {at : ℕ → Order} {n lot : ℕ} {alg : Algorithm} {t : Taker} where
 
 -- parts without a minimum that are met are filled
 all_full : (r : ℕ) (ps : List Part) (ns : List ℕ) → Every (λ p. p.minimum ≡ 0) ps → Each (Met r) ps ns → sum ns ≡ total part_size ps
+all_full r [] (n ∷ ns) z x4 = elim x4 [ ]
+all_full r (p ∷ ps) [] z x4 = elim x4 [ ]
 all_full r [] [] z Each.none = refl
 all_full r (p ∷ ps) (n ∷ ns) z (Each.more (Met.full e) m) = omega (arith, all_full r ps ns z.1 m)
 all_full r (p ∷ ps) (n ∷ ns) z (Each.more (Met.unmet e l) m) = let y = z.0 in absurd (omega arith)

@@ -33,6 +33,7 @@ idle_takes p (Idle.unmet l) x h = rw (lt-leb p.minimum x (omega arith))
 idle_round : {bound : ℕ} (p : Part) → Idle bound p → (qs : List Part) → Pairwise Differ qs → Memᴰ p qs → (left : ℕ) → left ≤ bound
     → goes_round part_size left qs p.number ≡ 0
 unfolding goes_round
+idle_round {bound = bound} p i mathlib.Core.List.[] d x3 left h = elim x3 [ ]
 idle_round p i (q ∷ qs) d (Memᴰ.head e) left h =
     rw (e) (rw (eq-eqb q.number q.number refl, absent part_size q.number qs d.0 (left - taking part_size left q), idle_takes q (rw e at i) left h))
 idle_round p i (q ∷ qs) d (Memᴰ.tail k) left h =

@@ -73,6 +73,7 @@ module _ (side : Side) where
 
   -- the number of a paragraph's group at one of the prices
   cell_member : (prices : List ℕ) (p : ℕ) → Memᴰ p prices → (g : Paragraph) → Memᴰ (cell side p g) (map (number_of side) (cells_over prices))
+  cell_member [] p x' g = elim x' [ ]
   cell_member (q ∷ prices) p (Memᴰ.head e) g = rw e (go g)
     where
       go : (g : Paragraph) → Memᴰ (cell side q g) (map (number_of side) (cells_over (q ∷ prices)))

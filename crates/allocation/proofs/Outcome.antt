@@ -147,7 +147,7 @@ module _ (lot : ℕ) (has_lot : 0 < lot) (alg : Algorithm) (i : Incoming) (at : 
     agreed : Agree alg at os (along lot alg t os (cells lot alg i os s.each) size) keys gets
     agreed =
         walk_agrees lot has_lot alg i at os s few b (cells lot alg i os s.each) (cells_fine lot alg i os s.each) (cells_ascend lot alg i os s.each)
-        keys gets size w (omega arith) within held
+        keys size gets w (omega arith) within held
 
     rows : allocations lot alg i os ≡ along lot alg t os (cells lot alg i os s.each) size
     unfolding allocations

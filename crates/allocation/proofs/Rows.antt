@@ -1,6 +1,6 @@
 -- What a paragraph allots at a price, beside all orders of a book, and what the parts of its group get, beside their keys: the same.
 use Prim.Native.Nat.{ℕ, zero, suc, ◌+◌, ◌<◌}
-use mathlib.Core.Path.{◌≡◌, refl, ap, ap₂}
+use mathlib.Core.Path.{◌≡◌, refl, ap, ap₂, subst⁻¹}
 use mathlib.Core.List.{List, [], ◌∷◌, map}
 use native.Mathlib.Omega.{arith}
 use native.Mathlib.Nat.{zero-add}
@@ -79,9 +79,13 @@ module _ (alg : Algorithm) (at : ℕ → Order) (price group bound : ℕ) where
     row_got (Row.none p) z v j h = absurd (omega arith)
     row_got (Row.keep {p = p} {key = key} {keys = keys} a e k g q r) z v zero h =
         rw (eq-eqb (place_in key) (p + 0) (omega arith), earlier r v (p + 0) (omega arith) (gets keys), q, g) (omega arith)
-    row_got (Row.keep {p = p} {key = key} {keys = keys} a e k g q r) z v (suc j) h =
+    row_got (Row.keep {p = p} {key = key} {parts = parts} {keys = keys} a e k g q r) z v (suc j) h =
         let s : p + suc j ≡ suc p + j = omega arith in
-        rw (ne_eqb (place_in key) (p + suc j) (λ y. omega arith), zero-add, s) (row_got r z.1 v j (omega arith))
+        let same = row_got r z.1 v j (omega arith) in
+        rw (ne_eqb (place_in key) (p + suc j) (λ y. omega arith), zero-add)
+        (subst⁻¹
+        (λ (n : ℕ). shares_of v (only_of (visible_by alg (paragraph_in group)) (get_or (map f parts) j 0)) ≡ got_at alg v n keys (gets keys))
+        s same)
     row_got (Row.drop {p = p} {keys = keys} i r) z v zero h =
         rw (z.0 i) (omega (arith, only_within v (visible_by alg (paragraph_in group)) 0, earlier r v (p + 0) (omega arith) (gets keys)))
     row_got (Row.drop {p = p} i r) z v (suc j) h =

@@ -1,6 +1,6 @@
 -- What an incoming order's way through the keys gives is what the allocations along all paragraphs of all price levels give.
 use Prim.Native.Nat.{ℕ, ◌-◌, ◌≤◌, ◌<◌}
-use mathlib.Core.Path.{◌≡◌, refl, sym, ap, ap₂, ◌∙◌}
+use mathlib.Core.Path.{◌≡◌, refl, sym, ap, ap₂, ◌∙◌, subst}
 use mathlib.Core.List.Memᴰ
 use mathlib.Core.List.{List, [], ◌∷◌, ◌++◌, map, append-nil, Memᴰ}
 use native.Mathlib.Omega.{arith}
@@ -116,6 +116,7 @@ module _ (lot : ℕ) (has_lot : 0 < lot) (alg : Algorithm) (i : Incoming) (at : 
 
   -- the number of a cell among others, all of them behind one
   behind : (c : Cell) (cs : List Cell) → Every (λ d. number_of side c < number_of side d) cs → (n : ℕ) → Memᴰ n (map (number_of side) cs) → number_of side c < n
+  behind c [] a n x'' = elim x'' [ ]
   behind c (d ∷ cs) a n (Memᴰ.head e) = let h = a.0 in omega arith
   behind c (d ∷ cs) a n (Memᴰ.tail m) = behind c cs a.1 n m
 
@@ -153,7 +154,7 @@ module _ (lot : ℕ) (has_lot : 0 < lot) (alg : Algorithm) (i : Incoming) (at : 
 
   -- The way through the keys gives what the allocations along the cells give.
   abbrev pub Agrees : List Cell → Type 0
-  Agrees cs = (keys gets : List ℕ) (left : ℕ) → Walks at lot alg keys left gets → left ≤ i.size.0 → Within cs keys
+  Agrees cs = (keys : List ℕ) (left : ℕ) (gets : List ℕ) → Walks at lot alg keys left gets → left ≤ i.size.0 → Within cs keys
       → ((c : Cell) → Memᴰ c cs → Held c keys gets left) → Agree alg at os (rows_of cs left) keys gets
 
   -- one cell more
@@ -166,7 +167,7 @@ module _ (lot : ℕ) (has_lot : 0 < lot) (alg : Algorithm) (i : Incoming) (at : 
       go (Held.complete e) =
           let n = empty c f.0 left l (sym e) in
           let z : left - used (row_of c left) ≡ left = omega (arith, n.uses) in
-          agree_more alg at os [] [] [] [] n (rw z (r [] [] left (Walks.none left) l tt (λ d m. h d (Memᴰ.tail m))))
+          agree_more alg at os [] [] [] [] n (rw z (r [] left [] (Walks.none left) l tt (λ d m. h d (Memᴰ.tail m))))
       go (Held.beyond x e) = rw (sym e) (nothing_left (c ∷ cs) f)
   walk_more c cs f a r _ _ _ (Walks.next left key keys later gets e g v) l w h = go w.0 (h c (Memᴰ.head refl))
     where
@@ -185,7 +186,7 @@ module _ (lot : ℕ) (has_lot : 0 < lot) (alg : Algorithm) (i : Incoming) (at : 
           let n : Allots alg at os (key ∷ keys) shared left (row_of c left) = rw (q, sym d) (allots c f.0 left l) in
           let later-all = every_weaken {P = λ k. group_in key < group_in k} {Q = λ k. number_of side c < group_in k} (λ k x. omega arith) later g in
           agree_more alg at os (key ∷ keys) later shared gets n
-          (rw n.uses (r later gets (left - sum shared) v (omega arith) (among later later-all (every_split _ keys later w.1).1)
+          (rw n.uses (r later (left - sum shared) gets v (omega arith) (among later later-all (every_split _ keys later w.1).1)
           (λ x m. held_later x (group_in key) (omega (arith, every_member (λ y. number_of side c < number_of side y) cs a.0 x m)) (key ∷ keys) later shared gets left
           (refl, e) (h x (Memᴰ.tail m)))))
 
@@ -198,17 +199,17 @@ module _ (lot : ℕ) (has_lot : 0 < lot) (alg : Algorithm) (i : Incoming) (at : 
           let n = empty c f.0 left l (sym q ∙ none_of (number_of side c) all each) in
           let z : left - used (row_of c left) ≡ left = omega (arith, n.uses) in
           agree_more alg at os [] all [] (shared ++ gets) n
-          (rw z (r all (shared ++ gets) left (Walks.next left key keys later gets e g v) l (among all each w) (λ x m. h x (Memᴰ.tail m))))
+          (rw z (r all left (shared ++ gets) (Walks.next left key keys later gets e g v) l (among all each w) (λ x m. h x (Memᴰ.tail m))))
 
       go : Memᴰ (group_in key) (map (number_of side) (c ∷ cs)) → Held c all (shared ++ gets) left → Agree alg at os (rows_of (c ∷ cs) left) all (shared ++ gets)
       go (Memᴰ.tail m) x = before (behind c cs a.0 (group_in key) m) x
       go (Memᴰ.head q) (Held.beyond x y) = let z = x.0 in absurd (omega arith)
       go (Memᴰ.head q) (Held.complete y) =
-          first q (sym y ∙ rw (sym q) (first_group (group_in key) (key ∷ keys) later (refl, e) g))
+          first q (sym y ∙ subst (λ (n : ℕ). filter (of_group n) all ≡ key ∷ keys) q (first_group (group_in key) (key ∷ keys) later (refl, e) g))
 
   pub walk_agrees : (cs : List Cell) → Every (Fine i.taker) cs → Ascends side cs → Agrees cs
   unfolding along
   walk_agrees [] f a _ _ _ (Walks.ended keys) l w h = agree_zeros alg at os (nothing_left [] f) keys
   walk_agrees [] f a _ _ _ (Walks.none left) l w h = agree_none alg at os
   walk_agrees [] f a _ _ _ (Walks.next left key keys later gets e g v) l w h = absurd (Memᴰ.not-nil w.0)
-  walk_agrees (c ∷ cs) f a keys gets left v l w h = walk_more c cs f a (walk_agrees cs f.1 a.1) keys gets left v l w h
+  walk_agrees (c ∷ cs) f a keys left gets v l w h = walk_more c cs f a (walk_agrees cs f.1 a.1) keys left gets v l w h

@@ -11,11 +11,15 @@ use Rattle.sharing.proofs.Filled.{Met, Each, Filled}
 
 -- parts that get no more than their size get no more than the group's total
 within : (ps : List Part) (ns : List ℕ) → Each (λ p n. n ≤ p.size) ps ns → sum ns ≤ total part_size ps
+within [] (n ∷ ns) x'' = elim x'' [ ]
+within (p ∷ ps) [] x3 = elim x3 [ ]
 within [] [] Each.none = omega arith
 within (p ∷ ps) (n ∷ ns) (Each.more h e) = omega (arith, within ps ns e)
 
 -- where they get all of it, each gets its size
 all_given : (ps : List Part) (ns : List ℕ) → Each (λ p n. n ≤ p.size) ps ns → total part_size ps ≤ sum ns → ns ≡ map part_size ps
+all_given [] (n ∷ ns) x4 h = elim x4 [ ]
+all_given (p ∷ ps) [] x4 h = elim x4 [ ]
 all_given [] [] Each.none h = refl
 all_given (p ∷ ps) (n ∷ ns) (Each.more f e) h =
     let w = within ps ns e in
@@ -25,6 +29,8 @@ all_given (p ∷ ps) (n ∷ ns) (Each.more f e) h =
 -- where r remain that are no fewer than the group lacks, no part can have a minimum above them
 met_given : (r : ℕ) (ps : List Part) (ns : List ℕ) → Every (λ p. p.minimum ≤ p.size) ps → Each (λ p n. n ≤ p.size) ps ns → Each (Met r) ps ns
     → total part_size ps ≤ r + sum ns → ns ≡ map part_size ps
+met_given r [] (n ∷ ns) l x8 _ h = elim x8 [ ]
+met_given r (p ∷ ps) [] l x7 _ h = elim x7 [ ]
 met_given r [] [] l Each.none Each.none h = refl
 met_given r (p ∷ ps) (n ∷ ns) l (Each.more f e) (Each.more (Met.full s) m) h = ap₂ ◌∷◌ s (met_given r ps ns l.1 e m (omega arith))
 met_given r (p ∷ ps) (n ∷ ns) l (Each.more f e) (Each.more (Met.unmet z u) m) h =

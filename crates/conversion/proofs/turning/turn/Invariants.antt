@@ -6,7 +6,6 @@ use Rattle.record.specs.declared.form.RecordForm.{RecordForm}
 use Rattle.record.specs.Record.{order_bytes}
 use Rattle.record.specs.Names.{form_of}
 use Rattle.book.specs.Sound.{first_records}
-use Rattle.conversion.proofs.Widths.{width}
 use Rattle.conversion.proofs.Filling.{Going}
 use Rattle.conversion.proofs.turning.turn.Given as goal
 
