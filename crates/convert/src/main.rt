@@ -1,7 +1,7 @@
 // convert: reads a book from standard input and writes it in the other form to standard output.
 #![tactic(auto)]
 
-ghost use Rattle.std.specs.Prelude.{◌≤◌};
+ghost use Rattle.std.specs.Prelude.{◌≤◌, IfOk, length};
 
 use record::form::RecordForm;
 use std::io;
@@ -81,9 +81,24 @@ fn convert(rt: &impl Print, book: &[u8]) -> io::Result<()> {
     Ok(())
 }
 
+// Reads until the buffer is full or the input ends. Gives how many bytes stand at its start.
+fn read_full(input: &mut impl Read, buffer: &mut [u8]) -> io::Result<usize>
+    ensures { IfOk result (λ n. n ≤ length buffer.new) }
+{
+    let mut done = 0;
+    while done < buffer.len() {
+        let n = input.read(&mut buffer[done..])?;
+        if n == 0 {
+            return Ok(done);
+        }
+        done += n;
+    }
+    Ok(done)
+}
+
 // One byte more than the longest book is read, so that a longer one is refused.
 fn main(rt: HostRuntime) -> io::Result<()> {
-    let mut input = Vec::new(rt.alloc());
-    rt.reader().take(10_241).read_to_end(&mut input)?;
-    convert(&rt, &input)
+    let mut input = [0u8; 10241];
+    let n = read_full(&mut rt.stdin(), &mut input)?;
+    convert(&rt, &input[..n])
 }

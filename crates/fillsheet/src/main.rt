@@ -1,7 +1,7 @@
 // fillsheet: reads commands to a book from standard input, a line each, and writes what each answers.
 #![tactic(auto)]
 
-ghost use Rattle.std.specs.Prelude.{◌+◌, ◌≤◌, length};
+ghost use Rattle.std.specs.Prelude.{◌+◌, ◌≤◌, IfOk, length};
 
 use desk::Answer;
 use record::execution::EXECUTION_BYTES;
@@ -106,13 +106,28 @@ fn run(rt: &impl Print, sheet: &[u8]) -> io::Result<()> {
     Ok(())
 }
 
+// Reads until the buffer is full or the input ends. Gives how many bytes stand at its start.
+fn read_full(input: &mut impl Read, buffer: &mut [u8]) -> io::Result<usize>
+    ensures { IfOk result (λ n. n ≤ length buffer.new) }
+{
+    let mut done = 0;
+    while done < buffer.len() {
+        let n = input.read(&mut buffer[done..])?;
+        if n == 0 {
+            return Ok(done);
+        }
+        done += n;
+    }
+    Ok(done)
+}
+
 // One byte more than the longest sheet is read, so that a longer one is refused.
 fn main(rt: HostRuntime) -> io::Result<()> {
-    let mut input = Vec::new(rt.alloc());
-    rt.reader().take(65_537).read_to_end(&mut input)?;
-    if MOST_BYTES < input.len() {
+    let mut input = [0u8; 65537];
+    let n = read_full(&mut rt.stdin(), &mut input)?;
+    if MOST_BYTES < n {
         write(&rt, b"refused 1\n")
     } else {
-        run(&rt, &input)
+        run(&rt, &input[..n])
     }
 }
