@@ -1,3 +1,4 @@
+mod Examples
 pub mod LeftOut
 pub mod Rows
 pub mod Cells

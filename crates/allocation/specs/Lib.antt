@@ -3,4 +3,3 @@ pub mod Stretch
 pub mod Credit
 pub mod Ready
 pub mod Sharing
-pub mod Examples

@@ -1,3 +1,4 @@
+mod NamingExamples
 pub mod Levels
 pub mod Entries
 pub mod Parts

@@ -14,5 +14,4 @@ pub mod ExampleBooks
 pub mod Examples
 pub mod ParagraphExamples
 pub mod Unfair
-pub mod NamingExamples
 pub mod ReserveExamples
