@@ -31,6 +31,7 @@ pub fn add_checked(book: &mut [u8], n: usize, request: AddRequest) -> u32
 }
 
 // An order is put last in the book. The numbers may have any value.
+#[tactic(auto, using(crate::proofs::AddPlan::add_range))]
 pub fn add(book: &mut [u8], request: AddRequest) -> u32
     ensures refused { result ≡ (add_call request book.old).refusal }
     ensures bytes { book.new ≡ (add_call request book.old).book }

@@ -49,6 +49,7 @@ fn outcome(start: usize, left: Order) -> Reduction
 
 // The refusal of a reduce that is checked, or what becomes of the security's order of this number. Checked: the numbers are in range, and
 // the book is sound and n of its records are in use.
+#[tactic(auto, using(crate::proofs::ReducePlan::too_much_refused))]
 pub fn decide(book: &[u8], n: usize, security: u32, number: u32, shares: u32) -> Reduction
     requires { ((security_in_range security && number_in_range number && shares_in_range shares) ≡ true) × (sound book.now ≡ true) × (n ≡ length (orders_of book.now)) }
     ensures { result ≡ reduce_plan security number shares book.now }

@@ -57,8 +57,8 @@ share-reached-requires c =
         for_minimums = length-take-le (c.group_end-end.result - (c.loop-at.at + c.whole.result)) c.loop-at.minimums for_minimums ∙ sym slice_long;
         for_gets = length-take-le (c.group_end-end.result - (c.loop-at.at + c.whole.result)) c.loop-at.gets for_gets ∙ sym slice_long;
       },
-      (turn_shared c.args.book.now c.args.keys.now c.args.lot.0 c.args.algorithm c.args.incoming.taker (ledger (record { incoming = c.args.incoming; count = 0 }) c.args.fills.now c.args.shown.now c.args.hidden.now) c.requires.0 c.loop-at.invariant.3 c.whole.ensures c.fill-reached.ensures c.group_end-end.ensures (omega (arith, c.if-left-eq0.false))),
-      turn_room c.args.book.now c.args.keys.now c.args.lot.0 c.args.algorithm c.args.incoming.taker (ledger (record { incoming = c.args.incoming; count = 0 }) c.args.fills.now c.args.shown.now c.args.hidden.now) c.requires.0 c.loop-at.invariant.3 c.whole.ensures c.fill-reached.ensures ends (omega (arith, c.if-left-eq0.false)),
+      (turn_shared c.args.book.now c.args.keys.now c.args.lot.0 c.args.algorithm c.args.incoming.taker (ledger (record { incoming = c.args.incoming; count = 0 }) c.args.fills.now c.args.shown.now c.args.hidden.now) c.requires.0 c.loop-at.invariant.3 c.whole.ensures c.fill-reached.ensures c.group_end-end.ensures (omega arith)),
+      turn_room c.args.book.now c.args.keys.now c.args.lot.0 c.args.algorithm c.args.incoming.taker (ledger (record { incoming = c.args.incoming; count = 0 }) c.args.fills.now c.args.shown.now c.args.hidden.now) c.requires.0 c.loop-at.invariant.3 c.whole.ensures c.fill-reached.ensures ends (omega arith),
     )
 
 pub loop-at-preserved : goal.loop-at-preserved
@@ -69,5 +69,5 @@ loop-at-preserved c =
       length_front c.loop-at.minimums c.share-reached.new.minimums (c.group_end-end.result - (c.loop-at.at + c.whole.result)) c.share-reached.auto.minimums ∙ c.loop-at.invariant.1,
       length_front c.loop-at.gets c.share-reached.new.gets (c.group_end-end.result - (c.loop-at.at + c.whole.result)) c.share-reached.auto.gets ∙ c.loop-at.invariant.2,
       way_share c.args.book.now c.args.keys.now c.args.lot.0 c.args.algorithm c.args.incoming.taker (ledger (record { incoming = c.args.incoming; count = 0 }) c.args.fills.now c.args.shown.now c.args.hidden.now) c.requires.0 c.group_end-end.ensures way
-          (turn_shared c.args.book.now c.args.keys.now c.args.lot.0 c.args.algorithm c.args.incoming.taker (ledger (record { incoming = c.args.incoming; count = 0 }) c.args.fills.now c.args.shown.now c.args.hidden.now) c.requires.0 c.loop-at.invariant.3 c.whole.ensures c.fill-reached.ensures c.group_end-end.ensures (omega (arith, c.if-left-eq0.false))) c.share-reached.ensures,
+          (turn_shared c.args.book.now c.args.keys.now c.args.lot.0 c.args.algorithm c.args.incoming.taker (ledger (record { incoming = c.args.incoming; count = 0 }) c.args.fills.now c.args.shown.now c.args.hidden.now) c.requires.0 c.loop-at.invariant.3 c.whole.ensures c.fill-reached.ensures c.group_end-end.ensures (omega arith)) c.share-reached.ensures,
     )

@@ -4,13 +4,8 @@ use Rattle.book.proofs.Checking.{occupancy_accepted}
 use Rattle.book.proofs.Committing.{refusal_answer}
 use Rattle.entry.specs.Add.{add_call}
 use Rattle.entry.proofs.Adding.{add_sound}
-use Rattle.entry.proofs.AddPlan.{add_range, add_unsound}
+use Rattle.entry.proofs.AddPlan.{add_unsound}
 use Rattle.entry.proofs.add.Goals as goal
-
-pub returns-then-not-in_range : goal.returns-then-not-in_range
-returns-then-not-in_range c =
-    let a = refusal_answer (add_call c.args.request c.args.book.now) c.args.book.now (add_sound c.args.request c.args.book.now) _ (add_range c.args.request c.args.book.now (sym c.in_range.ensures ∙ c.if-not-in_range.true)) in
-    record { refused = a.0; bytes = a.1.0; kept_sound = a.1.1 }
 
 pub returns-then-refusal-ne0 : goal.returns-then-refusal-ne0
 returns-then-refusal-ne0 c =

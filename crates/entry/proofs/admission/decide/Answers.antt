@@ -1,12 +1,18 @@
 -- `entry::admission::decide` meets its contract, refusal by refusal.
-use mathlib.Core.Path.{sym, ap, ◌∙◌}
+use Prim.Native.Nat.{◌≤◌}
+use mathlib.Core.Path.{◌≡◌, sym, ap, ◌∙◌}
+use mathlib.Core.Bool.{false, ◌&&◌}
 use native.Mathlib.Omega.{arith}
+use lib.Dec.{leb}
+use Rattle.units.specs.Lots.{round_lot}
 use Rattle.orders.specs.Order.{is_displayed, interest_of, all_shares}
+use Rattle.book.specs.Sound.{capacity_of}
 use Rattle.book.proofs.Checking.{sound_fits}
 use Rattle.entry.specs.Add.{requested}
 use Rattle.entry.proofs.Asking.{asked}
 use Rattle.entry.proofs.AddPlan.{stale_refused, trades_refused, full_refused, order_admitted}
 use Rattle.entry.proofs.admission.decide.Goals as goal
+use Rattle.entry.proofs.admission.decide.Goals.{Then-trades, Then-book-n, After-requested}
 
 pub standing_in-found-requires : goal.standing_in-found-requires
 standing_in-found-requires c = (
@@ -19,21 +25,34 @@ returns-then-stale c =
     stale_refused c.args.request c.args.book.now c.requires.0 c.requires.1 _ c.requires.2 _ c.requested-new.ensures _
     c.standing_in-found.ensures c.if-stale.true
 
+-- an order that could trade, and isn't refused before that, has a new number
+fresh : (c : Then-trades) → c.standing_in-found.result.stale ≡ false
+fresh c = grind arith
+
 pub returns-then-trades : goal.returns-then-trades
 returns-then-trades c =
     trades_refused c.args.request c.args.book.now c.requires.0 c.requires.1 _ c.requires.2 _ c.requested-new.ensures _
-    c.standing_in-found.ensures c.if-stale.false c.if-trades.true
+    c.standing_in-found.ensures (fresh c) c.if-trades.true
+
+-- there is no free record
+full : (c : Then-book-n) → capacity_of c.args.book.now ≤ c.args.n
+full c = c.if-book-n.true
 
 pub returns-then-book-n : goal.returns-then-book-n
 returns-then-book-n c =
     full_refused c.args.request c.args.book.now c.requires.0 c.requires.1 _ c.requires.2 _ c.requested-new.ensures _
-    c.standing_in-found.ensures c.if-stale.false c.if-trades.false c.if-book-n.true
+    c.standing_in-found.ensures c.if-stale.false c.if-trades.false (full c)
+
+-- the order that comes in is marked where it sets the price
+marked : (c : After-requested) → c.requested.result ≡ requested c.args.request
+    (is_displayed c.requested-new.result.kind && leb round_lot (interest_of c.requested-new.result).displayed && c.standing_in-found.result.beats)
+unfolding requested
+marked c =
+    let k = c.is_displayed.ensures c.args.request.minimum c.args.request.hidden c.args.request.refresh
+    ∙ ap (λ o. is_displayed o.kind) (sym c.requested-new.ensures) in
+    rw (k, c.displayed-shown.ensures, c.round_lot-lot.ensures) at c.requested.ensures
 
 pub returns : goal.returns
-unfolding requested
 returns c =
     order_admitted c.args.request c.args.book.now c.requires.0 c.requires.1 _ c.requires.2 _ c.requested-new.ensures _
-    c.standing_in-found.ensures c.if-stale.false c.if-trades.false c.if-book-n.false _ (let k =
-    c.is_displayed.ensures c.args.request.minimum c.args.request.hidden c.args.request.refresh
-    ∙ ap (λ o. is_displayed o.kind) (sym c.requested-new.ensures) in
-    rw (k, c.displayed-shown.ensures, c.round_lot-lot.ensures) at c.requested.ensures)
+    c.standing_in-found.ensures c.if-stale.false c.if-trades.false c.if-book-n.false _ (marked c)
