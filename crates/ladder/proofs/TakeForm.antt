@@ -108,7 +108,7 @@ module _ (q : TakeRequest) (s x l : List ℕ) where
   answers {r} {b} {y} {m} g t u like =
       let k = kept g in
       let accepted : r.refusal ≡ 0 → (r ≡ plain.taken) × (b ≡ plain.book) × (y ≡ plain.executions) =
-      λ e. let p = form_plain (like e) in (t ∙ p.0, g.bytes ∙ forms.accepted-book q.security book_alone l (sym g.refused ∙ e), u ∙ p.1) in
+      λ e. let p = form_plain (like e) in (t ∙ p.0, g.bytes ∙ forms.accepted_book q.security book_alone l (sym g.refused ∙ e), u ∙ p.1) in
       (t, (k.1, (u, (k.2, (fair accepted, (g.kept_sound, (g.kept_ladder, (rest g t u, plainly g t u))))))))
     where
       rest : Gets r.refusal b m → r ≡ form.taken → y ≡ form.executions → (r.refusal ≡ 0 → ⊥) → (b ≡ s) × (y ≡ x) × (m ≡ l)
@@ -130,18 +130,18 @@ module _ (q : TakeRequest) (s x l : List ℕ) where
 
   -- a number out of its range
   pub take_range : request_in_range q ≡ false → Answers (record { refusal = 1; count = 0; left = 0 }) s x l
-  take_range e = refuses (forms.form-range q.security book_alone l e) (λ z. omega arith)
+  take_range e = refuses (forms.form_range q.security book_alone l e) (λ z. omega arith)
 
   module _ (e : request_in_range q ≡ true) (c : Seen) (k : c ≡ seen_of q.security s l) where
     -- book and ladder are seen, and refused
     pub take_seen : (c.refusal ≡ 0 → ⊥) → Answers (record { refusal = c.refusal; count = 0; left = 0 }) s x l
-    take_seen n = refuses (forms.form-seen q.security book_alone l e c k n) n
+    take_seen n = refuses (forms.form_seen q.security book_alone l e c k n) n
 
     -- or the take is made, and the ladder kept
     pub take_made : c.refusal ≡ 0 → {r : Taken} {b y m : List ℕ} → r ≡ plain.taken → b ≡ plain.book → y ≡ plain.executions
         → m ≡ kept_ladder q.security r.refusal b l → Answers r b y m
     take_made a {r} t u v w =
-        let g = forms.form-made q.security book_alone l e c k a (ap (λ (z : Taken). z.refusal) t) u w in
+        let g = forms.form_made q.security book_alone l e c k a (ap (λ (z : Taken). z.refusal) t) u w in
         let f : form.taken.refusal ≡ plain.taken.refusal = sym (kept g).0 ∙ ap (λ (z : Taken). z.refusal) t in
         let p = form_plain f in
         answers g (t ∙ sym p.0) (v ∙ sym p.1) (λ z. f)

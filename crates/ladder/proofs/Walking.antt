@@ -10,12 +10,18 @@ use lib.Seq.{take-add, length-take-le}
 use Rattle.units.specs.Lists.{all, flat_map, is_zero, same_numbers}
 use Rattle.units.proofs.Totals.{flat_last, length_flat}
 use Rattle.record.specs.Codec.{replaced}
+use Rattle.book.specs.Sound.{order_at}
 use Rattle.record.proofs.Filling.{Filled, filled_none, filled_more, filled_done}
 use Rattle.ladder.specs.declared.row.Row.{Row}
 use Rattle.ladder.specs.Row.{encode_row}
-use Rattle.ladder.specs.Rows.{same_level, joined}
+use Rattle.ladder.specs.Rows.{same_level, joined, row_of}
+use Rattle.ladder.specs.Key.{place_in}
 use Rattle.ladder.specs.Along.{behind, along}
 use Rattle.ladder.proofs.Bytes.{length_row, Amounts, amounts_joined}
+
+-- the row of a key's order alone
+abbrev pub row_of_key : List ℕ → ℕ → Row
+row_of_key book k = row_of (order_at book (place_in k))
 
 -- Of the rows of single orders, i were read since the level began; these and the rest come to what all of them do.
 pub record Joining (all : List Row) (row : Row) (i : ℕ) (rest : List Row) : Type 0 where

@@ -7,7 +7,6 @@ use Rattle.orders.specs.declared.order.Kind.{Kind}
 use Rattle.orders.specs.declared.order.Kind.TheVariants.{Displayed, NonDisplayed, MinimumQuantity, Reserve}
 use Rattle.orders.specs.declared.order.Order.{Order}
 use Rattle.record.specs.Codec.{encode, decode}
-use Rattle.record.specs.Record.{numbers_of}
 use Rattle.ladder.specs.declared.row.Row.{Row}
 use Rattle.ladder.specs.Row as form
 use Rattle.ladder.specs.Row.{row_bytes, encode_row, row_from, rows_in}
@@ -27,7 +26,7 @@ order side kind number price size = record {
 
 -- the numbers of rows: side, 0, price, displayed and other shares, orders, 0
 unfoldable pub numbers : List Row → List ℕ
-numbers = flat_map form.numbersOf
+numbers = flat_map form.numbers_of
 
 -- sells rise and buys fall, whatever the order of their records
 sells : List Order
@@ -66,14 +65,14 @@ asks_worked = refl
 
 -- kind 1 is displayed, kinds 2 and 3 are other
 kinds_worked : all (λ b. b)
-    (same_numbers (form.numbersOf (row_of (order Sell Displayed 1 5 300))) (2 ∷ 0 ∷ 5 ∷ 300 ∷ 0 ∷ 1 ∷ 0 ∷ []) ∷
-    same_numbers (form.numbersOf (row_of (order Sell NonDisplayed 1 5 300))) (2 ∷ 0 ∷ 5 ∷ 0 ∷ 300 ∷ 1 ∷ 0 ∷ []) ∷
-    same_numbers (form.numbersOf (row_of (order Sell (MinimumQuantity (record { 0 = 50 })) 1 5 300))) (2 ∷ 0 ∷ 5 ∷ 0 ∷ 300 ∷ 1 ∷ 0 ∷ []) ∷ []) ≡ true
+    (same_numbers (form.numbers_of (row_of (order Sell Displayed 1 5 300))) (2 ∷ 0 ∷ 5 ∷ 300 ∷ 0 ∷ 1 ∷ 0 ∷ []) ∷
+    same_numbers (form.numbers_of (row_of (order Sell NonDisplayed 1 5 300))) (2 ∷ 0 ∷ 5 ∷ 0 ∷ 300 ∷ 1 ∷ 0 ∷ []) ∷
+    same_numbers (form.numbers_of (row_of (order Sell (MinimumQuantity (record { 0 = 50 })) 1 5 300))) (2 ∷ 0 ∷ 5 ∷ 0 ∷ 300 ∷ 1 ∷ 0 ∷ []) ∷ []) ≡ true
 unfolding order row_of
 kinds_worked = refl
 
 -- an order of kind 4 is counted once, with what it shows displayed and what it hides other
-reserve_worked : same_numbers (form.numbersOf (row_of (order Sell (Reserve (record { 0 = 250 }) (record { 0 = 100 })) 1 5 60)))
+reserve_worked : same_numbers (form.numbers_of (row_of (order Sell (Reserve (record { 0 = 250 }) (record { 0 = 100 })) 1 5 60)))
     (2 ∷ 0 ∷ 5 ∷ 60 ∷ 250 ∷ 1 ∷ 0 ∷ []) ≡ true
 unfolding order row_of
 reserve_worked = refl

@@ -1,6 +1,6 @@
 -- `allocation::allocate` meets its contract: whole groups are filled, then one is shared, while shares are left.
-use Prim.Native.Nat.{ℕ, ◌+◌, ◌-◌, ◌≤◌}
-use mathlib.Core.Path.{◌≡◌, sym, ap, ◌∙◌}
+use Prim.Native.Nat.{◌+◌, ◌-◌, ◌≤◌}
+use mathlib.Core.Path.{sym, ap, ◌∙◌}
 use native.Mathlib.Omega.{arith}
 use lib.ListN.{length, drop, length-drop}
 use lib.Seq.{length-take-le, length_front}
@@ -21,13 +21,13 @@ fill-reached-requires c =
 pub returns-then-whole-keys : goal.returns-then-whole-keys
 returns-then-whole-keys c =
     let way : Way c.args.book.now c.args.keys.now c.args.lot.0 c.args.algorithm c.args.incoming.taker (ledger (record { incoming = c.args.incoming; count = 0 }) c.args.fills.now c.args.shown.now c.args.hidden.now) (c.loop-at.at + c.whole.result) (ledger c.fill-reached.result c.fill-reached.new.fills c.fill-reached.new.shown c.fill-reached.new.hidden) =
-      turn_filled c.args.book.now c.args.keys.now c.args.lot.0 c.args.algorithm c.args.incoming.taker (ledger (record { incoming = c.args.incoming; count = 0 }) c.args.fills.now c.args.shown.now c.args.hidden.now) c.requires.0 c.loop-at.invariant.3 c.whole.ensures c.fill-reached.ensures in
+    turn_filled c.args.book.now c.args.keys.now c.args.lot.0 c.args.algorithm c.args.incoming.taker (ledger (record { incoming = c.args.incoming; count = 0 }) c.args.fills.now c.args.shown.now c.args.hidden.now) c.requires.0 c.loop-at.invariant.3 c.whole.ensures c.fill-reached.ensures in
     way_done c.args.book.now c.args.keys.now c.args.lot.0 c.args.algorithm c.args.incoming.taker (ledger (record { incoming = c.args.incoming; count = 0 }) c.args.fills.now c.args.shown.now c.args.hidden.now) way (omega (arith, c.if-whole-keys.true))
 
 pub returns-then-left-eq0 : goal.returns-then-left-eq0
 returns-then-left-eq0 c =
     let way : Way c.args.book.now c.args.keys.now c.args.lot.0 c.args.algorithm c.args.incoming.taker (ledger (record { incoming = c.args.incoming; count = 0 }) c.args.fills.now c.args.shown.now c.args.hidden.now) (c.loop-at.at + c.whole.result) (ledger c.fill-reached.result c.fill-reached.new.fills c.fill-reached.new.shown c.fill-reached.new.hidden) =
-      turn_filled c.args.book.now c.args.keys.now c.args.lot.0 c.args.algorithm c.args.incoming.taker (ledger (record { incoming = c.args.incoming; count = 0 }) c.args.fills.now c.args.shown.now c.args.hidden.now) c.requires.0 c.loop-at.invariant.3 c.whole.ensures c.fill-reached.ensures in
+    turn_filled c.args.book.now c.args.keys.now c.args.lot.0 c.args.algorithm c.args.incoming.taker (ledger (record { incoming = c.args.incoming; count = 0 }) c.args.fills.now c.args.shown.now c.args.hidden.now) c.requires.0 c.loop-at.invariant.3 c.whole.ensures c.fill-reached.ensures in
     way_ended c.args.book.now c.args.keys.now c.args.lot.0 c.args.algorithm c.args.incoming.taker (ledger (record { incoming = c.args.incoming; count = 0 }) c.args.fills.now c.args.shown.now c.args.hidden.now) way c.if-left-eq0.true
 
 pub group_end-end-requires : goal.group_end-end-requires
@@ -42,16 +42,15 @@ pub share-reached-requires : goal.share-reached-requires
 share-reached-requires c =
     let ends : Ends c.args.keys.now (c.loop-at.at + c.whole.result) c.group_end-end.result = c.group_end-end.ensures in
     let way : Way c.args.book.now c.args.keys.now c.args.lot.0 c.args.algorithm c.args.incoming.taker (ledger (record { incoming = c.args.incoming; count = 0 }) c.args.fills.now c.args.shown.now c.args.hidden.now) (c.loop-at.at + c.whole.result) (ledger c.fill-reached.result c.fill-reached.new.fills c.fill-reached.new.shown c.fill-reached.new.hidden) =
-      turn_filled c.args.book.now c.args.keys.now c.args.lot.0 c.args.algorithm c.args.incoming.taker (ledger (record { incoming = c.args.incoming; count = 0 }) c.args.fills.now c.args.shown.now c.args.hidden.now) c.requires.0 c.loop-at.invariant.3 c.whole.ensures c.fill-reached.ensures in
+    turn_filled c.args.book.now c.args.keys.now c.args.lot.0 c.args.algorithm c.args.incoming.taker (ledger (record { incoming = c.args.incoming; count = 0 }) c.args.fills.now c.args.shown.now c.args.hidden.now) c.requires.0 c.loop-at.invariant.3 c.whole.ensures c.fill-reached.ensures in
     let for_sizes : c.group_end-end.result - (c.loop-at.at + c.whole.result) ≤ length c.loop-at.sizes =
-      omega (arith, c.loop-at.invariant.0, c.requires.1.sizes_long (c.loop-at.at + c.whole.result) c.group_end-end.result c.group_end-end.ensures) in
+    omega (arith, c.loop-at.invariant.0, c.requires.1.sizes_long (c.loop-at.at + c.whole.result) c.group_end-end.result c.group_end-end.ensures) in
     let for_minimums : c.group_end-end.result - (c.loop-at.at + c.whole.result) ≤ length c.loop-at.minimums =
-      omega (arith, c.loop-at.invariant.1, c.requires.1.minimums_long (c.loop-at.at + c.whole.result) c.group_end-end.result c.group_end-end.ensures) in
+    omega (arith, c.loop-at.invariant.1, c.requires.1.minimums_long (c.loop-at.at + c.whole.result) c.group_end-end.result c.group_end-end.ensures) in
     let for_gets : c.group_end-end.result - (c.loop-at.at + c.whole.result) ≤ length c.loop-at.gets =
-      omega (arith, c.loop-at.invariant.2, c.requires.1.gets_long (c.loop-at.at + c.whole.result) c.group_end-end.result c.group_end-end.ensures) in
+    omega (arith, c.loop-at.invariant.2, c.requires.1.gets_long (c.loop-at.at + c.whole.result) c.group_end-end.result c.group_end-end.ensures) in
     let slice_long =
-      length-take-le (c.group_end-end.result - (c.loop-at.at + c.whole.result)) (drop (c.loop-at.at + c.whole.result) c.args.keys.now) (omega (arith, ends.within, length-drop (c.loop-at.at + c.whole.result) c.args.keys.now)) in
-    (
+    length-take-le (c.group_end-end.result - (c.loop-at.at + c.whole.result)) (drop (c.loop-at.at + c.whole.result) c.args.keys.now) (omega (arith, ends.within, length-drop (c.loop-at.at + c.whole.result) c.args.keys.now)) in (
       rw (ap (λ (i : Incoming). i.taker) way.credited.left) (slice_book c.args.book.now c.args.keys.now c.args.lot.0 c.args.algorithm c.args.incoming.taker (ledger (record { incoming = c.args.incoming; count = 0 }) c.args.fills.now c.args.shown.now c.args.hidden.now) c.requires.0 ends),
       record {
         for_sizes = length-take-le (c.group_end-end.result - (c.loop-at.at + c.whole.result)) c.loop-at.sizes for_sizes ∙ sym slice_long;
@@ -65,11 +64,10 @@ share-reached-requires c =
 pub loop-at-preserved : goal.loop-at-preserved
 loop-at-preserved c =
     let way : Way c.args.book.now c.args.keys.now c.args.lot.0 c.args.algorithm c.args.incoming.taker (ledger (record { incoming = c.args.incoming; count = 0 }) c.args.fills.now c.args.shown.now c.args.hidden.now) (c.loop-at.at + c.whole.result) (ledger c.fill-reached.result c.fill-reached.new.fills c.fill-reached.new.shown c.fill-reached.new.hidden) =
-      turn_filled c.args.book.now c.args.keys.now c.args.lot.0 c.args.algorithm c.args.incoming.taker (ledger (record { incoming = c.args.incoming; count = 0 }) c.args.fills.now c.args.shown.now c.args.hidden.now) c.requires.0 c.loop-at.invariant.3 c.whole.ensures c.fill-reached.ensures in
-    (
+    turn_filled c.args.book.now c.args.keys.now c.args.lot.0 c.args.algorithm c.args.incoming.taker (ledger (record { incoming = c.args.incoming; count = 0 }) c.args.fills.now c.args.shown.now c.args.hidden.now) c.requires.0 c.loop-at.invariant.3 c.whole.ensures c.fill-reached.ensures in (
       length_front c.loop-at.sizes c.share-reached.new.sizes (c.group_end-end.result - (c.loop-at.at + c.whole.result)) c.share-reached.auto.sizes ∙ c.loop-at.invariant.0,
       length_front c.loop-at.minimums c.share-reached.new.minimums (c.group_end-end.result - (c.loop-at.at + c.whole.result)) c.share-reached.auto.minimums ∙ c.loop-at.invariant.1,
       length_front c.loop-at.gets c.share-reached.new.gets (c.group_end-end.result - (c.loop-at.at + c.whole.result)) c.share-reached.auto.gets ∙ c.loop-at.invariant.2,
       way_share c.args.book.now c.args.keys.now c.args.lot.0 c.args.algorithm c.args.incoming.taker (ledger (record { incoming = c.args.incoming; count = 0 }) c.args.fills.now c.args.shown.now c.args.hidden.now) c.requires.0 c.group_end-end.ensures way
-      (turn_shared c.args.book.now c.args.keys.now c.args.lot.0 c.args.algorithm c.args.incoming.taker (ledger (record { incoming = c.args.incoming; count = 0 }) c.args.fills.now c.args.shown.now c.args.hidden.now) c.requires.0 c.loop-at.invariant.3 c.whole.ensures c.fill-reached.ensures c.group_end-end.ensures (omega (arith, c.if-left-eq0.false))) c.share-reached.ensures,
+          (turn_shared c.args.book.now c.args.keys.now c.args.lot.0 c.args.algorithm c.args.incoming.taker (ledger (record { incoming = c.args.incoming; count = 0 }) c.args.fills.now c.args.shown.now c.args.hidden.now) c.requires.0 c.loop-at.invariant.3 c.whole.ensures c.fill-reached.ensures c.group_end-end.ensures (omega (arith, c.if-left-eq0.false))) c.share-reached.ensures,
     )

@@ -2,7 +2,6 @@
 use Prim.Native.Nat.{◌-◌}
 use mathlib.Core.Path.{◌≡◌}
 use lib.ListN.{length}
-use Rattle.orders.specs.Order.{shown, hidden}
 use Rattle.allocation.specs.Credit.{ledger}
 use Rattle.allocation.proofs.Way.{Way}
 use Rattle.allocation.proofs.allocate.Given as goal

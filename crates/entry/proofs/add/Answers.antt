@@ -22,5 +22,3 @@ pub add_checked-requires : goal.add_checked-requires
 add_checked-requires c =
     let b = occupancy_accepted c.args.book.now _ c.occupancy-occupancy.ensures c.if-refusal-ne0.false in
     (sym c.in_range.ensures ∙ c.if-not-in_range.false, b.0, b.1)
-
-

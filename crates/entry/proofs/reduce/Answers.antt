@@ -24,5 +24,3 @@ pub reduce_checked-requires : goal.reduce_checked-requires
 reduce_checked-requires c =
     let b = occupancy_accepted c.args.book.now _ c.occupancy-occupancy.ensures c.if-refusal-ne0.false in
     (sym c.in_range.ensures ∙ c.if-not-in_range.false, b.0, b.1)
-
-

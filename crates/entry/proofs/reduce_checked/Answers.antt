@@ -1,5 +1,4 @@
 -- `entry::reduce_checked` meets its contract: what was decided is what the call comes to.
-use mathlib.Core.Path.{sym, ◌∙◌}
 use native.Mathlib.Omega.{arith}
 use Rattle.record.proofs.Numbers.{are_bytes}
 use Rattle.book.proofs.Committing.{refusal_answer, written_answer, removed_answer}

@@ -1,7 +1,6 @@
 -- `lookup::check` meets its contract, refusal by refusal, and by the orders counted.
 use mathlib.Core.Path.{sym, ap, ◌∙◌}
 use native.Mathlib.Omega.{arith}
-use borrow.Author.Tests.{not-true, not-false}
 use Rattle.orders.specs.Trading.{of_security}
 use Rattle.book.specs.Sound.{first_orders}
 use Rattle.book.proofs.Checking.{orders_first, sound_fits, occupancy_accepted, occupancy_refused, check_range, check_unsound, check_sound}
@@ -29,4 +28,3 @@ returns c =
     let b = occupancy_accepted c.args.book.now _ c.occupancy-occupancy.ensures c.if-refusal-ne0.false in
     let n = c.count_of.ensures ∙ ap (λ i. count_of (of_security c.args.security) (first_orders i c.args.book.now)) b.1 ∙ ap (count_of (of_security c.args.security)) (sym (orders_first c.args.book.now)) in
     ap (λ i. record { refusal = 0; orders = i }) n ∙ check_sound c.args.book.now c.args.security r b.0
-

@@ -1,6 +1,5 @@
 -- `lookup::locate` meets its contract, refusal by refusal, and as a checked one does.
 use mathlib.Core.Path.{sym, ap, ◌∙◌}
-use borrow.Author.Tests.{not-true, not-false}
 use Rattle.book.proofs.Checking.{occupancy_accepted, occupancy_refused}
 use Rattle.book.proofs.Finding.{missed, missed_inside, find_range, find_unsound}
 use Rattle.lookup.proofs.locate.Goals as goal
@@ -20,4 +19,3 @@ pub locate_checked-requires : goal.locate_checked-requires
 locate_checked-requires c =
     let b = occupancy_accepted c.args.book.now _ c.occupancy-occupancy.ensures c.if-refusal-ne0.false in
     (sym c.in_range.ensures ∙ c.if-not-in_range.false, b.0, b.1)
-

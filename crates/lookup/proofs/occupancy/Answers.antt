@@ -1,6 +1,5 @@
 -- `lookup::occupancy` meets its contract: a length that is none of a book's, and then the four tests of the records that were counted.
 use mathlib.Core.Path.{sym, ◌∙◌}
-use borrow.Author.Tests.{not-true, not-false}
 use Rattle.book.proofs.Checking.{sound_length, sound_parts, occupancy_sound, occupancy_unsound}
 use Rattle.lookup.proofs.occupancy.Goals as goal
 
@@ -17,4 +16,3 @@ pub returns-else-is_sound : goal.returns-else-is_sound
 returns-else-is_sound c =
     let q = sound_parts c.args.book.now _ c.count_occupied-n.ensures.0 (sym c.has_whole_records.ensures ∙ c.if-not-has_whole_records.false) in
     occupancy_unsound c.args.book.now (q ∙ sym c.is_sound.ensures ∙ c.if-is_sound.false)
-

@@ -5,4 +5,3 @@ use Rattle.lookup.proofs.occupied.Goals as goal
 
 pub returns : goal.returns
 returns c = c.count_occupied.ensures.0 ∙ sym (orders_count c.args.book.now)
-

@@ -9,4 +9,3 @@ returns c =
     λ o h e.
     rw (c.rank_on.ensures, c.rank_on-2.ensures, c.number.ensures)
     (meets_read c.args.numbers o e c.args.incoming (omega (arith, c.well_formed.1)) (omega (arith, (order_facts o h).price_most)))
-

@@ -1,15 +1,11 @@
 -- `parts::write_parts` meets its contract: the part of the order's size goes behind the first keys, and that of what it hides behind it.
-use mathlib.Core.Path.{◌≡◌, refl, ap, ◌∙◌}
+use mathlib.Core.Path.{refl, ap, ◌∙◌}
 use mathlib.Core.List.{◌++◌}
 use native.Mathlib.Omega.{arith}
 use borrow.Author.Rules.{rules}
 use lib.ListN.{take}
 use Rattle.units.specs.Lists.{or_zero}
 use Rattle.orders.specs.declared.order.Kind.TheVariants.{NonDisplayed}
-use Rattle.orders.specs.declared.order.Order.{Order}
-use Rattle.record.specs.Record.{numbers_of}
-use Rattle.record.specs.Names.{named_numbers}
-use Rattle.record.proofs.Orders.{OrderSound}
 use Rattle.parts.specs.Parts.{may_meet}
 use Rattle.units.proofs.Columns.{kept_more}
 use Rattle.parts.proofs.Keeping.{kept_two}
@@ -22,16 +18,15 @@ part_of-requires c =
     (f.0, f.1, c.requires.0, c.requires.1, c.requires.2)
 
 pub returns-then-numbers-eq0 : goal.returns-then-numbers-eq0
-returns-then-numbers-eq0 c =
-    (
-      search rules,
-      omega (arith, c.one_if-met.ensures.1),
-      λ o alg others h e t.
-          rw (c.one_if-met.ensures.0 ∙ ap (λ b. or_zero b 1) (c.may_meet.ensures o h e))
-          (kept_more (may_meet c.args.incoming o) c.args.keys.now c.args.count c.part_of.result others (omega arith)
-          ∙ ap (λ ks. take c.args.count c.args.keys.now ++ ks)
-          (parts_one c.args.numbers o e h c.args.lot.0 alg c.args.incoming c.args.place c.part_of.result others (λ k q. c.part_of.ensures k alg q t) c.if-numbers-eq0.true)),
-    )
+returns-then-numbers-eq0 c = (
+  search rules,
+  omega (arith, c.one_if-met.ensures.1),
+  λ o alg others h e t.
+      rw (c.one_if-met.ensures.0 ∙ ap (λ b. or_zero b 1) (c.may_meet.ensures o h e))
+      (kept_more (may_meet c.args.incoming o) c.args.keys.now c.args.count c.part_of.result others (omega arith)
+      ∙ ap (λ ks. take c.args.count c.args.keys.now ++ ks)
+      (parts_one c.args.numbers o e h c.args.lot.0 alg c.args.incoming c.args.place c.part_of.result others (λ k q. c.part_of.ensures k alg q t) c.if-numbers-eq0.true)),
+)
 
 pub part_of-requires-2 : goal.part_of-requires-2
 part_of-requires-2 c =
@@ -39,14 +34,13 @@ part_of-requires-2 c =
     (omega arith, f.2, c.requires.0, c.requires.1, c.requires.2)
 
 pub returns : goal.returns
-returns c =
-    (
-      search rules,
-      omega (arith, c.one_if-met.ensures.1),
-      λ o alg others h e t.
-          rw (c.one_if-met.ensures.0 ∙ ap (λ b. or_zero b 1) (c.may_meet.ensures o h e))
-          (kept_two (may_meet c.args.incoming o) c.args.keys.now c.args.count c.part_of.result c.part_of-2.result others (omega arith)
-          ∙ ap (λ ks. take c.args.count c.args.keys.now ++ ks)
-          (parts_two c.args.numbers o e h c.args.lot.0 alg c.args.incoming c.args.place c.part_of.result c.part_of-2.result others
-          (λ k q. c.part_of.ensures k alg q t) (c.part_of-2.ensures NonDisplayed alg refl t) c.if-numbers-eq0.false)),
-    )
+returns c = (
+  search rules,
+  omega (arith, c.one_if-met.ensures.1),
+  λ o alg others h e t.
+      rw (c.one_if-met.ensures.0 ∙ ap (λ b. or_zero b 1) (c.may_meet.ensures o h e))
+      (kept_two (may_meet c.args.incoming o) c.args.keys.now c.args.count c.part_of.result c.part_of-2.result others (omega arith)
+      ∙ ap (λ ks. take c.args.count c.args.keys.now ++ ks)
+      (parts_two c.args.numbers o e h c.args.lot.0 alg c.args.incoming c.args.place c.part_of.result c.part_of-2.result others
+      (λ k q. c.part_of.ensures k alg q t) (c.part_of-2.ensures NonDisplayed alg refl t) c.if-numbers-eq0.false)),
+)

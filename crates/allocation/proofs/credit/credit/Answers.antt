@@ -2,9 +2,7 @@
 use Prim.Native.Nat.{◌+◌}
 use mathlib.Core.Path.{refl, ap}
 use native.Mathlib.Omega.{arith}
-use Rattle.orders.specs.Order.{shown, hidden}
-use Rattle.allocation.specs.Credit.{ledger}
-use Rattle.allocation.proofs.Crediting.{Begun, begun_none, begun_next, begun_note, begun_more, begun_all}
+use Rattle.allocation.proofs.Crediting.{begun_next, begun_note, begun_more}
 use Rattle.allocation.proofs.credit.credit.Goals as goal
 
 pub with_shares-requires : goal.with_shares-requires

@@ -1,18 +1,15 @@
 -- `allocation::credit::fill` meets its contract: the first k parts are filled.
-use Prim.Native.Nat.{ℕ, ◌+◌, ◌<◌}
-use mathlib.Core.Path.{◌≡◌, refl, sym, ap, ◌∙◌}
-use mathlib.Core.List.{List, map}
+use Prim.Native.Nat.{◌<◌}
+use mathlib.Core.Path.{refl, sym, ap, ◌∙◌}
 use native.Mathlib.Omega.{arith}
 use native.Mathlib.Nat.{add-zero}
 use borrow.Author.Tests.{lt-ltb}
 use lib.ListN.{length-map, get_or, get_or-map}
 use Rattle.units.proofs.Totals.{total_map}
 use Rattle.units.proofs.Members.{every_at}
-use Rattle.orders.specs.Order.{shown, hidden}
 use Rattle.parts.specs.Key.{shares_in, with_shares}
 use Rattle.parts.proofs.Keys.{with_own}
-use Rattle.allocation.specs.Credit.{ledger}
-use Rattle.allocation.proofs.Crediting.{Begun, begun_none, begun_next, begun_note, begun_more}
+use Rattle.allocation.proofs.Crediting.{begun_none, begun_next, begun_note, begun_more}
 use Rattle.allocation.proofs.credit.fill.Goals as goal
 
 pub loop-k-init : goal.loop-k-init

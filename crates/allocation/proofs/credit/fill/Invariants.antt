@@ -3,7 +3,6 @@ use Prim.Native.Nat.{◌+◌, ◌-◌}
 use mathlib.Core.Path.{◌≡◌}
 use mathlib.Core.List.{map}
 use lib.ListN.{length}
-use Rattle.orders.specs.Order.{shown, hidden}
 use Rattle.matching.specs.declared.Algorithm.{Algorithm}
 use Rattle.parts.specs.Key.{shares_in}
 use Rattle.parts.specs.Visible.{last_shown}

@@ -27,4 +27,3 @@ returns-else-stands_up_to c =
     λ alg v e.
     let l : leb (paragraph_in (group_in c.args.key)) (last_shown alg) ≡ false = rw (← e, ← c.stands_up_to.ensures) c.if-stands_up_to.false in
     rw c.note-else-stands_up_to.ensures (noted_hidden alg c.args.key c.args.shares.0 c.args.shown.now c.args.hidden.now c.place-place.ensures l v)
-

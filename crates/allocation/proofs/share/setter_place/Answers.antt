@@ -1,8 +1,8 @@
 -- `allocation::share::setter_place` meets its contract: none of the parts before is a setter.
-use Prim.Native.Nat.{◌+◌, ◌*◌, ◌≤◌, ◌<◌}
-use mathlib.Core.Path.{◌≡◌, sym, ap, ◌∙◌}
+use Prim.Native.Nat.{◌<◌}
+use mathlib.Core.Path.{sym, ap, ◌∙◌}
 use native.Mathlib.Omega.{arith}
-use lib.ListN.{length, get_or}
+use lib.ListN.{length}
 use Rattle.orders.specs.declared.order.Order.{Order}
 use Rattle.book.specs.Sound.{orders_of, order_at}
 use Rattle.book.proofs.Checking.{sound_fits}
@@ -15,11 +15,11 @@ use Rattle.allocation.proofs.share.setter_place.Goals as goal
 pub order_at-order-requires : goal.order_at-order-requires
 order_at-order-requires c =
     let inside : c.place.result < length (orders_of c.args.book.now) =
-      omega (
-        arith,
-        c.place.ensures,
-        every_at (λ k. place_in k < length (orders_of c.args.book.now)) c.args.keys.now c.requires.0 c.loop-k.k (omega arith),
-      ) in
+    omega (
+      arith,
+      c.place.ensures,
+      every_at (λ k. place_in k < length (orders_of c.args.book.now)) c.args.keys.now c.requires.0 c.loop-k.k (omega arith),
+    ) in
     omega (arith, inside, sound_fits c.args.book.now c.requires.1)
 
 pub returns-then-order : goal.returns-then-order

@@ -14,4 +14,3 @@ returns c =
       c.of.ensures,
       e,
     )
-

@@ -1,12 +1,7 @@
 -- `entry::admission::decide` meets its contract, refusal by refusal.
-use Prim.Native.Nat.{◌≤◌}
-use mathlib.Core.Path.{◌≡◌, sym, ap, ◌∙◌}
-use mathlib.Core.Bool.{◌&&◌}
+use mathlib.Core.Path.{sym, ap, ◌∙◌}
 use native.Mathlib.Omega.{arith}
-use lib.Dec.{leb}
-use Rattle.units.specs.Lots.{round_lot}
 use Rattle.orders.specs.Order.{is_displayed, interest_of, all_shares}
-use Rattle.book.specs.Sound.{capacity_of}
 use Rattle.book.proofs.Checking.{sound_fits}
 use Rattle.entry.specs.Add.{requested}
 use Rattle.entry.proofs.Asking.{asked}
@@ -14,11 +9,10 @@ use Rattle.entry.proofs.AddPlan.{stale_refused, trades_refused, full_refused, or
 use Rattle.entry.proofs.admission.decide.Goals as goal
 
 pub standing_in-found-requires : goal.standing_in-found-requires
-standing_in-found-requires c =
-    (
-      omega (arith, sound_fits c.args.book.now c.requires.1),
-      sym (asked c.args.request c.requires.0).shares ∙ ap (λ o. all_shares (interest_of o)) (sym c.requested-new.ensures),
-    )
+standing_in-found-requires c = (
+  omega (arith, sound_fits c.args.book.now c.requires.1),
+  sym (asked c.args.request c.requires.0).shares ∙ ap (λ o. all_shares (interest_of o)) (sym c.requested-new.ensures),
+)
 
 pub returns-then-stale : goal.returns-then-stale
 returns-then-stale c =
@@ -40,6 +34,6 @@ unfolding requested
 returns c =
     order_admitted c.args.request c.args.book.now c.requires.0 c.requires.1 _ c.requires.2 _ c.requested-new.ensures _
     c.standing_in-found.ensures c.if-stale.false c.if-trades.false c.if-book-n.false _ (let k =
-        c.is_displayed.ensures c.args.request.minimum c.args.request.hidden c.args.request.refresh
-        ∙ ap (λ o. is_displayed o.kind) (sym c.requested-new.ensures) in
+    c.is_displayed.ensures c.args.request.minimum c.args.request.hidden c.args.request.refresh
+    ∙ ap (λ o. is_displayed o.kind) (sym c.requested-new.ensures) in
     rw (k, c.displayed-shown.ensures, c.round_lot-lot.ensures) at c.requested.ensures)

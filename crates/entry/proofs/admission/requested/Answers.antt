@@ -5,4 +5,3 @@ use Rattle.entry.proofs.admission.requested.Goals as goal
 pub returns : goal.returns
 unfolding requested
 returns c = rw (c.of-2.ensures, c.of.ensures)
-

@@ -25,4 +25,3 @@ returns c =
     c.outcome.ensures
     ∙ order_reduced c.args.security c.args.number c.args.shares c.args.book.now c.requires.0 _ c.locate_checked-found.ensures.answer c.if-refusal-ne0.false _
     c.order_at-order.ensures l _ c.reduced.ensures
-

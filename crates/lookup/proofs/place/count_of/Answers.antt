@@ -1,5 +1,4 @@
 -- `lookup::place::count_of` meets its contract: those counted and those of the security among the rest are all that are of it.
-use mathlib.Core.Logic.{⊎_elim}
 use native.Mathlib.Omega.{arith}
 use borrow.Author.Tests.{eq-eqb, ne_eqb}
 use Rattle.orders.specs.Trading.{of_security}

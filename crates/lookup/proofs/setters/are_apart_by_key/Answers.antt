@@ -16,10 +16,10 @@ returns-then-contains c =
 pub loop-left-preserved : goal.loop-left-preserved
 loop-left-preserved c =
     elim c.if-order.branch [
-      then-order+else-contains w ↦
-        rw (w.keys-is, w.marked-is)
-        (gathered_more c.loop-left.invariant c.loop-left-test.true c.order_at-order.ensures w.if-order.true w.key_of-key.ensures (sym w.contains.ensures ∙ w.if-contains.false))
-    | else-order w ↦
-        rw (w.keys-is, w.marked-is)
-        (gathered_same c.loop-left.invariant c.loop-left-test.true c.order_at-order.ensures w.if-order.false)
+      | then-order+else-contains w ↦
+          rw (w.keys-is, w.marked-is)
+          (gathered_more c.loop-left.invariant c.loop-left-test.true c.order_at-order.ensures w.if-order.true w.key_of-key.ensures (sym w.contains.ensures ∙ w.if-contains.false))
+      | else-order w ↦
+          rw (w.keys-is, w.marked-is)
+          (gathered_same c.loop-left.invariant c.loop-left-test.true c.order_at-order.ensures w.if-order.false)
     ]

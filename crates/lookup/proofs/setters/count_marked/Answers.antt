@@ -1,5 +1,4 @@
 -- `lookup::setters::count_marked` meets its contract: those counted and those marked among the rest are all that are marked.
-use mathlib.Core.Logic.{⊎_elim}
 use native.Mathlib.Omega.{arith}
 use Rattle.lookup.proofs.Counting.{counted_more, counted_same}
 use Rattle.lookup.proofs.setters.count_marked.Goals as goal

@@ -14,4 +14,3 @@ returns c =
       c.records_sound.ensures,
     )
     (apart_where c.args.n c.args.book.now _ c.are_apart.ensures _ _)
-

@@ -1,7 +1,6 @@
 -- `lookup::sound::numbers_rise` meets its contract: those that were read rise, and what is left rises above the last, where all rise.
 use mathlib.Core.Path.{◌∙◌}
 use borrow.Author.Rules.{rules}
-use Rattle.book.specs.Sound.{rising}
 use Rattle.book.proofs.Walking.{rising_more}
 use Rattle.lookup.proofs.sound.numbers_rise.Goals as goal
 

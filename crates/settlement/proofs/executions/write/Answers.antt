@@ -16,4 +16,3 @@ loop-k-preserved c =
 pub returns : goal.returns
 returns c =
     writing_done (execution_of (order_at c.args.book.now)) c.args.fills.now c.loop-k.invariant (omega arith)
-

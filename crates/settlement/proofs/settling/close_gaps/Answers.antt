@@ -1,9 +1,7 @@
 -- `settlement::settling::close_gaps` meets its contract: the first i orders have lost their shares, and one of them has left.
-use Prim.Native.Nat.{◌*◌, ◌≤◌}
 use mathlib.Core.Path.{sym, ◌∙◌}
 use native.Mathlib.Omega.{arith}
 use borrow.Author.Rules.{rules}
-use lib.ListN.{length}
 use Rattle.settlement.proofs.Passing.{passed_none, passed_gone, record_next, passed_moved, moved_done, passed_done}
 use Rattle.settlement.proofs.settling.close_gaps.Goals as goal
 use Rattle.settlement.proofs.settling.close_gaps.Goals.{else-stays, then-stays}
@@ -23,12 +21,12 @@ pub loop-i-preserved : goal.loop-i-preserved
 loop-i-preserved c =
     let e = sym c.stays.ensures in
     elim c.if-stays.branch [
-      then-stays w ↦ (
+      | then-stays w ↦ (
         rw (w.part-is, w.kept-is, w.moves-is) (passed_moved c.loop-i.invariant.0 (search rules) _ _ (e ∙ w.if-stays.true) c.loop-i.invariant.1 w.move_up.ensures),
         omega (arith, w.kept-is, c.loop-i.invariant.1),
         omega (arith, w.moves-is, c.loop-i.invariant.2),
       )
-    | else-stays w ↦ (
+      | else-stays w ↦ (
         rw (w.part-is, w.kept-is, w.moves-is) (passed_gone c.loop-i.invariant.0 (search rules) _ _ (e ∙ w.if-stays.false)),
         omega (arith, w.kept-is, c.loop-i.invariant.1),
         omega (arith, w.moves-is, c.loop-i.invariant.2),

@@ -9,4 +9,3 @@ pub returns-else-any_lost : goal.returns-else-any_lost
 returns-else-any_lost c =
     let z = are_bytes c.args.book.now (λ i. omega (arith, c.slice_known-1.given i)) in
     bytes_same c.args.book.now c.args.at c.args.shown.0 c.args.hidden.0 c.requires (sym c.any_lost.ensures ∙ c.if-any_lost.false) z
-

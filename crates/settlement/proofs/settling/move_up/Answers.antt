@@ -12,4 +12,3 @@ returns-else-any_lost c =
     c.copy.ensures
     ∙ ap (λ r. replaced c.args.to r c.args.book.now)
     (record_same c.args.book.now c.args.from c.args.shown.0 c.args.hidden.0 c.requires.0 (sym c.any_lost.ensures ∙ c.if-any_lost.false) z)
-

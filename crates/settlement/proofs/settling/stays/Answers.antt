@@ -18,4 +18,3 @@ returns-then-any_lost c =
 pub returns : goal.returns
 returns c =
     sym (rests_same c.args.book.now c.args.at c.args.shown.0 c.args.hidden.0 c.requires (sym c.any_lost.ensures ∙ c.if-any_lost.false))
-
