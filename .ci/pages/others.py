@@ -31,7 +31,7 @@ class Readme(Page):
 
     def crates(self, rows):
         named = [name for _, row in rows for name in codes(row[0])]
-        self.hold(rows[0][0], sorted(named), sorted(re.findall(r"^(\w+):", read("crates.txt"), re.M)))
+        self.hold(rows[0][0], sorted(named), sorted(re.findall(r"^(\w+)(?: staticlib)?:", read("crates.txt"), re.M)))
 
     def program(self, line, lines):
         self.output = output_of(lines)

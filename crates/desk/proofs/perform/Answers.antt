@@ -24,4 +24,3 @@ returns-in-Take c =
 pub returns-in-Nothing : goal.returns-in-Nothing
 unfolding performed
 returns-in-Nothing c = rw c.in-Nothing.is
-
