@@ -19,24 +19,21 @@ use entry::admission::AddRequest;
 use matching::{TakeRequest, Taken};
 
 // The version of the interface, as the header's RUHVASTO_VERSION.
-#[unsafe(no_mangle)]
-pub extern "C" fn ruhvasto_version() -> u32
+pub fn ruhvasto_version() -> u32
     ensures { result ≡ 8 }
 {
     8
 }
 
 // Whether the book is sound, and how many orders of the security it has.
-#[unsafe(no_mangle)]
-pub extern "C" fn ruhvasto_check(book: &[u8], security: u32) -> Checked
+pub fn ruhvasto_check(book: &[u8], security: u32) -> Checked
     ensures { result ≡ check_call security book.now }
 {
     lookup::check(book, security)
 }
 
 // Where in the book the security's order of this number lies. A reference can't be returned to C.
-#[unsafe(no_mangle)]
-pub extern "C" fn ruhvasto_find(book: &[u8], security: u32, number: u32) -> Found
+pub fn ruhvasto_find(book: &[u8], security: u32, number: u32) -> Found
     ensures answer { result ≡ find_call security number book.now }
     ensures within { result.start + result.length ≤ length book.now }
 {
@@ -44,8 +41,7 @@ pub extern "C" fn ruhvasto_find(book: &[u8], security: u32, number: u32) -> Foun
 }
 
 // An order is put last in the book.
-#[unsafe(no_mangle)]
-pub extern "C" fn ruhvasto_add(book: &mut [u8], request: AddRequest) -> u32
+pub fn ruhvasto_add(book: &mut [u8], request: AddRequest) -> u32
     ensures refused { result ≡ (add_call request book.old).refusal }
     ensures bytes { book.new ≡ (add_call request book.old).book }
     ensures kept_sound { result ≡ 0 → sound book.new ≡ true }
@@ -54,8 +50,7 @@ pub extern "C" fn ruhvasto_add(book: &mut [u8], request: AddRequest) -> u32
 }
 
 // The security's order of this number loses shares; without any it leaves the book.
-#[unsafe(no_mangle)]
-pub extern "C" fn ruhvasto_reduce(book: &mut [u8], security: u32, number: u32, shares: u32) -> u32
+pub fn ruhvasto_reduce(book: &mut [u8], security: u32, number: u32, shares: u32) -> u32
     ensures refused { result ≡ (reduce_call security number shares book.old).refusal }
     ensures bytes { book.new ≡ (reduce_call security number shares book.old).book }
     ensures kept_sound { result ≡ 0 → sound book.new ≡ true }
@@ -64,12 +59,7 @@ pub extern "C" fn ruhvasto_reduce(book: &mut [u8], security: u32, number: u32, s
 }
 
 // An incoming order takes shares from the orders of the book. Its executions go into the second buffer, from its start.
-#[unsafe(no_mangle)]
-pub extern "C" fn ruhvasto_take(
-    book: &mut [u8],
-    executions: &mut [u8],
-    request: TakeRequest,
-) -> Taken
+pub fn ruhvasto_take(book: &mut [u8], executions: &mut [u8], request: TakeRequest) -> Taken
     ensures taken { result ≡ (take_call request book.old executions.old).taken }
     ensures book_bytes { book.new ≡ (take_call request book.old executions.old).book }
     ensures execution_bytes { executions.new ≡ (take_call request book.old executions.old).executions }
@@ -80,8 +70,7 @@ pub extern "C" fn ruhvasto_take(
 }
 
 // The ladder of the security in the book, all its bytes, whatever stood there.
-#[unsafe(no_mangle)]
-pub extern "C" fn ruhvasto_ladder(book: &[u8], ladder: &mut [u8], security: u32) -> u32
+pub fn ruhvasto_ladder(book: &[u8], ladder: &mut [u8], security: u32) -> u32
     ensures refused { result ≡ (ladder_call security book.now ladder.old).refusal }
     ensures ladder_bytes { ladder.new ≡ (ladder_call security book.now ladder.old).ladder }
     ensures tells { result ≡ 0 → Tells (orders_for security book.now) ladder.new (rows_of (orders_for security book.now)) }
@@ -90,12 +79,7 @@ pub extern "C" fn ruhvasto_ladder(book: &[u8], ladder: &mut [u8], security: u32)
 }
 
 // An order is put last in the book, and the ladder is kept.
-#[unsafe(no_mangle)]
-pub extern "C" fn ruhvasto_add_ladder(
-    book: &mut [u8],
-    ladder: &mut [u8],
-    request: AddRequest,
-) -> u32
+pub fn ruhvasto_add_ladder(book: &mut [u8], ladder: &mut [u8], request: AddRequest) -> u32
     ensures refused { result ≡ (add_ladder_call request book.old ladder.old).refusal }
     ensures bytes { book.new ≡ (add_ladder_call request book.old ladder.old).book }
     ensures ladder_bytes { ladder.new ≡ (add_ladder_call request book.old ladder.old).ladder }
@@ -109,8 +93,7 @@ pub extern "C" fn ruhvasto_add_ladder(
 }
 
 // The security's order of this number loses shares, and the ladder is kept.
-#[unsafe(no_mangle)]
-pub extern "C" fn ruhvasto_reduce_ladder(
+pub fn ruhvasto_reduce_ladder(
     book: &mut [u8],
     ladder: &mut [u8],
     security: u32,
@@ -130,8 +113,7 @@ pub extern "C" fn ruhvasto_reduce_ladder(
 }
 
 // An incoming order takes shares from the orders of the book, and the ladder is kept.
-#[unsafe(no_mangle)]
-pub extern "C" fn ruhvasto_take_ladder(
+pub fn ruhvasto_take_ladder(
     book: &mut [u8],
     executions: &mut [u8],
     ladder: &mut [u8],
@@ -155,8 +137,7 @@ pub extern "C" fn ruhvasto_take_ladder(
 }
 
 // An old book goes to the target in the new form.
-#[unsafe(no_mangle)]
-pub extern "C" fn ruhvasto_to_new(old: &[u8], target: &mut [u8]) -> u32
+pub fn ruhvasto_to_new(old: &[u8], target: &mut [u8]) -> u32
     ensures refused { result ≡ (to_new_call old.now target.old).refusal }
     ensures bytes { target.new ≡ (to_new_call old.now target.old).book }
     ensures made_sound { result ≡ 0 → sound_in new_form target.new ≡ true }
@@ -166,8 +147,7 @@ pub extern "C" fn ruhvasto_to_new(old: &[u8], target: &mut [u8]) -> u32
 }
 
 // A book goes to the target in the old form.
-#[unsafe(no_mangle)]
-pub extern "C" fn ruhvasto_to_old(book: &[u8], target: &mut [u8]) -> u32
+pub fn ruhvasto_to_old(book: &[u8], target: &mut [u8]) -> u32
     ensures refused { result ≡ (to_old_call book.now target.old).refusal }
     ensures bytes { target.new ≡ (to_old_call book.now target.old).book }
     ensures made_sound { result ≡ 0 → sound_in old_form target.new ≡ true }
