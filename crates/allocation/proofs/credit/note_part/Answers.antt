@@ -1,14 +1,12 @@
 -- `allocation::credit::note_part` meets its contract: the paragraph says of which visibility the part is.
 use mathlib.Core.Path.{◌≡◌}
 use mathlib.Core.Bool.{true, false}
-use native.Mathlib.Omega.{arith}
 use lib.Dec.{leb}
 use Rattle.orders.specs.Order.{shown, hidden}
 use Rattle.parts.specs.Key.{group_in, paragraph_in}
 use Rattle.parts.specs.Visible.{last_shown}
 use Rattle.allocation.proofs.Crediting.{noted_shown, noted_hidden}
 use Rattle.allocation.proofs.credit.note_part.Goals as goal
-use Rattle.allocation.proofs.credit.note_part.Goals.{After-note}
 
 pub note-requires : goal.note-requires
 note-requires c =
@@ -17,10 +15,6 @@ note-requires c =
 pub note-requires-else-stands_up_to : goal.note-requires-else-stands_up_to
 note-requires-else-stands_up_to c =
     rw c.place-place.ensures (c.requires hidden)
-
--- where the first note is made, the paragraph is one of those that are shown
-shows : (c : After-note) → c.stands_up_to.result ≡ true
-shows c = grind arith
 
 pub returns-then-stands_up_to : goal.returns-then-stands_up_to
 returns-then-stands_up_to c =

@@ -1,11 +1,10 @@
 -- `settlement::settling::close_gaps` meets its contract: the first i orders have lost their shares, and one of them has left.
-use mathlib.Core.Path.{◌≡◌, sym, ◌∙◌}
-use mathlib.Core.Bool.{true}
+use mathlib.Core.Path.{sym, ◌∙◌}
 use native.Mathlib.Omega.{arith}
 use borrow.Author.Rules.{rules}
 use Rattle.settlement.proofs.Passing.{passed_none, passed_gone, record_next, passed_moved, moved_done, passed_done}
 use Rattle.settlement.proofs.settling.close_gaps.Goals as goal
-use Rattle.settlement.proofs.settling.close_gaps.Goals.{else-stays, then-stays, After-move_up}
+use Rattle.settlement.proofs.settling.close_gaps.Goals.{else-stays, then-stays}
 
 pub loop-i-init : goal.loop-i-init
 loop-i-init c =
@@ -17,10 +16,6 @@ stays-requires c = record_next c.loop-i.invariant.0 (search rules) 0 0
 pub move_up-requires : goal.move_up-requires
 move_up-requires c =
     (record_next c.loop-i.invariant.0 (search rules) 0 0, omega (arith, c.loop-i.invariant.0.begun.room, c.loop-i.invariant.0.bytes.long, c.loop-i.invariant.1))
-
--- an order whose record moves up still rests
-moves_up : (c : After-move_up) → c.stays.result ≡ true
-moves_up c = grind arith
 
 pub loop-i-preserved : goal.loop-i-preserved
 loop-i-preserved c =
