@@ -54,18 +54,15 @@ pub(crate) fn fill(
     let incoming = from.incoming;
     let last = visible::last_shown(algorithm);
     let mut used = Shares(0);
-    let mut k = 0;
-    while k < keys.len() {
-        let key = keys[k];
+    for (k, &key) in keys.iter().enumerate() {
         let shares = key::shares(key);
         fills[from.count + k] = key;
         note_part(key, shares, last, shown, hidden);
         used = units::sum(used, shares);
-        k += 1;
     }
     Progress {
         incoming: incoming.executed(used),
-        count: from.count + k,
+        count: from.count + keys.len(),
     }
 }
 
@@ -90,15 +87,12 @@ pub(crate) fn credit(
     let last = visible::last_shown(algorithm);
     let mut count = from.count;
     let mut used = Shares(0);
-    let mut k = 0;
-    while k < keys.len() {
-        let key = keys[k];
+    for (k, &key) in keys.iter().enumerate() {
         let shares = Shares(gets[k]);
         fills[count] = key::with_shares(key, shares);
         note_part(key, shares, last, shown, hidden);
         used = units::sum(used, shares);
-        count += units::one_if(0 < shares.0) as usize;
-        k += 1;
+        count += usize::from(0 < shares.0);
     }
     Progress {
         incoming: incoming.executed(used),

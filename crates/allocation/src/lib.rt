@@ -21,7 +21,8 @@ pub struct Progress {
     pub count: usize,
 }
 
-// What each part gets, group by group while shares are left. The columns are lent, and anything.
+// What each part gets, group by group while shares are left. The columns are lent, and anything. They, and the fills and allotments, stay
+// slices by themselves: tried, a struct of them has each contract and invariant say that it still holds the same references.
 pub fn allocate(
     book: &[u8],
     keys: &[u64],
@@ -43,6 +44,7 @@ pub fn allocate(
         (ledger result fills.new shown.new hidden.new) }
 {
     let mut reached = Progress { incoming, count: 0 };
+    // A while: a turn ends where its group does.
     let mut at = 0;
     while at < keys.len() {
         let order = reached.incoming;

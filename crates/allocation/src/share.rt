@@ -11,6 +11,7 @@ ghost use Rattle.allocation.specs.Sharing.{Book, minimum_in, Columns, Shared, Fi
 use crate::{Progress, credit};
 use book::records;
 use book::records::RECORD_BYTES;
+use dividing::Amounts;
 use matching::{Algorithm, Paragraph};
 use parts::key;
 use sharing::Method;
@@ -22,12 +23,10 @@ fn sizes_of(keys: &[u64], sizes: &mut [u32]) -> Shares
     ensures { (sizes.new ≡ map shares_in keys.now) × (result.0 ≡ total shares_in keys.now) }
 {
     let mut total = Shares(0);
-    let mut k = 0;
-    while k < keys.len() {
-        let shares = key::shares(keys[k]);
+    for (k, &key) in keys.iter().enumerate() {
+        let shares = key::shares(key);
         sizes[k] = shares.0;
         total = units::sum(total, shares);
-        k += 1;
     }
     total
 }
@@ -37,13 +36,11 @@ fn minimums_of(book: &[u8], keys: &[u64], minimums: &mut [u32])
     requires { (length minimums.old ≡ length keys.now) × Every (λ k. place_in k < length (orders_of book.now)) keys.now × (sound book.now ≡ true) }
     ensures { minimums.new ≡ map (minimum_in book.now) keys.now }
 {
-    let mut k = 0;
-    while k < keys.len() {
-        let order = records::order_at(book, RECORD_BYTES * key::place(keys[k]));
+    for (k, &key) in keys.iter().enumerate() {
+        let order = records::order_at(book, RECORD_BYTES * key::place(key));
         let kind = order.kind;
         let minimum = kind.minimum();
         minimums[k] = minimum.0;
-        k += 1;
     }
 }
 
@@ -52,15 +49,13 @@ fn setter_place(book: &[u8], keys: &[u64]) -> usize
     requires { Every (λ k. place_in k < length (orders_of book.now)) keys.now × (sound book.now ≡ true) }
     ensures { FirstSetter (map (part_in (order_at book.now)) keys.now) result }
 {
-    let mut k = 0;
-    while k < keys.len() {
-        let order = records::order_at(book, RECORD_BYTES * key::place(keys[k]));
+    for (k, &key) in keys.iter().enumerate() {
+        let order = records::order_at(book, RECORD_BYTES * key::place(key));
         if order.setter {
             return k;
         }
-        k += 1;
     }
-    k
+    keys.len()
 }
 
 // What a method needs besides the sizes: the minimums where it is in turn, and the place of the price setter where it has one.
@@ -101,19 +96,15 @@ pub(crate) fn share(
         (ledger result fills.new shown.new hidden.new) }
 {
     let incoming = from.incoming;
-    let paragraph = Paragraph::of(key::paragraph(keys[0]));
+    let paragraph = Paragraph::from(key::paragraph(keys[0]));
     let method = paragraph.method(algorithm);
     let total = sizes_of(keys, sizes);
     let setter = needs(book, keys, method, minimums);
-    dividing::divide(
-        method,
-        sizes,
-        minimums,
-        setter,
+    let amounts = Amounts {
         total,
-        incoming.size,
+        left: incoming.size,
         lot,
-        gets,
-    );
+    };
+    dividing::divide(method, sizes, minimums, setter, amounts, gets);
     credit::credit(keys, gets, from, algorithm, fills, shown, hidden)
 }

@@ -15,16 +15,14 @@ fn filled(keys: &[u64], left: Shares) -> usize
         × (result < length keys.now → left.0 < total shares_in (take (result + 1) keys.now)) }
 {
     let mut rest = left;
-    let mut k = 0;
-    while k < keys.len() {
-        let shares = key::shares(keys[k]);
+    for (k, &key) in keys.iter().enumerate() {
+        let shares = key::shares(key);
         if rest.0 < shares.0 {
             return k;
         }
         rest = units::difference(rest, shares);
-        k += 1;
     }
-    k
+    keys.len()
 }
 
 // Where the group of the key at a place begins.
@@ -35,14 +33,12 @@ fn group_start(keys: &[u64], place: usize) -> usize
         × ((j : ℕ) → result ≡ j + 1 → group_at keys.now j ≡ group_at keys.now place → ⊥) }
 {
     let group = key::group(keys[place]);
-    let mut k = place;
-    while 0 < k {
-        if key::group(keys[k - 1]) != group {
-            return k;
+    for j in (0..place).rev() {
+        if key::group(keys[j]) != group {
+            return j + 1;
         }
-        k -= 1;
     }
-    k
+    0
 }
 
 // How many keys, from the front on, are whole groups that the shares left fill.
@@ -63,12 +59,10 @@ pub(crate) fn group_end(keys: &[u64], from: usize) -> usize
     ensures { Ends keys.now from result }
 {
     let group = key::group(keys[from]);
-    let mut k = from + 1;
-    while k < keys.len() {
+    for k in from + 1..keys.len() {
         if key::group(keys[k]) != group {
             return k;
         }
-        k += 1;
     }
-    k
+    keys.len()
 }

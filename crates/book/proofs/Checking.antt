@@ -9,15 +9,16 @@ use lib.ListN.{length, take, drop, length-map, length-drop, take-append-drop}
 use lib.Seq.{drop-drop}
 use lib.Dec.{leb, eqb}
 use borrow.Author.Tests.{eqb-true, leb-true}
+use Rattle.std.specs.Prelude.{Result, Ok, Err, MatchResult, is_ok}
 use Rattle.units.specs.Lists.{all, is_zero}
 use Rattle.units.proofs.Tests.{and_true}
 use Rattle.units.proofs.Members.{all_append}
 use Rattle.record.specs.Record.{OrderForm, order_bytes, decode_order, record_sound}
 use Rattle.orders.specs.Order.{security_in_range}
-use Rattle.book.specs.declared.Occupancy.{Occupancy}
+use Rattle.book.specs.declared.refusal.Refusal.{Refusal}
+use Rattle.book.specs.declared.refusal.Refusal.TheVariants.{UnsoundBook}
 use Rattle.book.specs.Sound.{most_orders, form, record_bytes, rising, setters_sound, is_unused, occupied, behind}
 use Rattle.book.specs.Sound.{first_records, records_in, capacity_in, sound_in, first_orders_in, sound, orders_of, first_orders}
-use Rattle.book.specs.Occupancy.{occupancy_of}
 use Rattle.book.specs.Lookup.{orders_for, check_call}
 use Rattle.book.proofs.Soundness.{orders_fit, capacity_most, capacity_bytes}
 
@@ -126,20 +127,6 @@ module _ (s : List ℕ) where
   pub sound_fits : sound s ≡ true → (40 * length (orders_of s) ≤ length s) × (length (orders_of s) ≤ 256)
   sound_fits e = omega (arith, orders_fit s, capacity_most s e, capacity_bytes s e)
 
-  -- an unsound book is refused 2
-  pub occupancy_unsound : sound s ≡ false → record { refusal = 2; records = 0 } ≡ occupancy_of s
-  unfolding occupancy_of
-  occupancy_unsound h = rw h
-
-  -- a sound one isn't, and no other
-  pub occupancy_test : eqb (occupancy_of s).refusal 0 ≡ sound s
-  unfolding occupancy_of
-  occupancy_test = go (sound s)
-    where
-      go : (b : Bool) → eqb (cond (not b) 2 0) 0 ≡ b
-      go true = refl
-      go false = refl
-
   module _ (n : ℕ) (e : n ≡ length (occupied (records_in form s))) where
     -- a whole number of records, at most 256, is a sound book where its first n and the bytes behind them pass these four tests
     pub sound_parts : (leb (length s) (most_orders * record_bytes) && is_zero (length s % record_bytes)) ≡ true
@@ -151,28 +138,11 @@ module _ (s : List ℕ) where
     unfolding sound
     sound_parts h = sound_parts_in form s n e h
 
-    -- a sound book's records in use are those of its orders
-    pub occupancy_sound : sound s ≡ true → record { refusal = 0; records = n } ≡ occupancy_of s
-    unfolding occupancy_of
-    occupancy_sound h = rw (h, orders_count, e)
-
-  -- What is known of a book that was looked at.
-  module _ (r : Occupancy) (q : r ≡ occupancy_of s) where
-    -- an accepted one is sound, and has so many orders
-    pub occupancy_accepted : r.refusal ≡ 0 → (sound s ≡ true) × (r.records ≡ length (orders_of s))
-    occupancy_accepted h = go (sound s) refl
-      where
-        go : (b : Bool) → sound s ≡ b → (sound s ≡ true) × (r.records ≡ length (orders_of s))
-        go true e = (e, ap (λ x. x.records) (q ∙ sym (occupancy_sound (length (orders_of s)) orders_count e)))
-        go false e = absurd (omega (arith, ap (λ x. x.refusal) (q ∙ sym (occupancy_unsound e))))
-
-    -- a refused one is not, and the refusal is 2
-    pub occupancy_refused : (r.refusal ≡ 0 → ⊥) → (sound s ≡ false) × (r.refusal ≡ 2)
-    occupancy_refused h = go (sound s) refl
-      where
-        go : (b : Bool) → sound s ≡ b → (sound s ≡ false) × (r.refusal ≡ 2)
-        go true e = absurd (h (ap (λ x. x.refusal) (q ∙ sym (occupancy_sound (length (orders_of s)) orders_count e))))
-        go false e = (e, ap (λ x. x.refusal) (q ∙ sym (occupancy_unsound e)))
+  -- an answer that says which of both the book is
+  pub known_test : (r : Result ℕ Refusal)
+      → MatchResult r (λ n. (sound s ≡ true) × (n ≡ length (orders_of s))) (λ e. (sound s ≡ false) × (e ≡ UnsoundBook)) → is_ok r ≡ sound s
+  known_test (Ok n) h = sym h.0
+  known_test (Err e) h = sym h.0
 
   module _ (k : ℕ) where
     -- check, refusal 1: there is no such security

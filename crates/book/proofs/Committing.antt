@@ -9,13 +9,13 @@ use Rattle.orders.specs.declared.order.Order.{Order}
 use Rattle.record.specs.Codec.{replaced}
 use Rattle.record.specs.Record.{encode_order}
 use Rattle.record.proofs.Numbers.{AreBytes}
-use Rattle.book.specs.declared.Occupancy.{Occupancy}
+use Rattle.book.specs.declared.refusal as reason
+use Rattle.book.specs.declared.refusal.Refusal.TheVariants.{OutOfRange, UnsoundBook, UnknownNumber, StaleNumber, CouldTrade, BookFull, TooManyShares, SmallBuffer, LadderLength, OtherLadder, NoOldForm, UnfitTarget}
+use Rattle.book.specs.Answer.{number_of}
 use Rattle.book.specs.Sound.{form, sound}
 use Rattle.book.specs.Change.{without_record}
 use Rattle.book.specs.Refusal.{Refusal, refuse, refusal_of, Changed, changed_unless}
-use Rattle.book.specs.Occupancy.{occupancy_of}
 use Rattle.book.proofs.Refusing.{book_refused}
-use Rattle.book.proofs.Checking.{occupancy_refused}
 
 module _ (call : Changed) (s : List ℕ) where
   -- it is refused with this number
@@ -50,10 +50,23 @@ module _ (in_range : Bool) (of_book : List Refusal) (s after : List ℕ) where
   refuses_range e = rw e (refuses 1 s after (λ z. omega arith))
 
   -- refusal 2, a book that isn't sound
-  pub refuses_book : in_range ≡ true → (c : Occupancy) → c ≡ occupancy_of s → (c.refusal ≡ 0 → ⊥) → Refuses call s c.refusal
-  refuses_book e c k h =
-      let b = occupancy_refused s c k h in
-      rw (e, b.0, b.1) (refuses 2 s after (λ z. omega arith))
+  pub refuses_book : in_range ≡ true → sound s ≡ false → Refuses call s 2
+  refuses_book e b = rw (e, b) (refuses 2 s after (λ z. omega arith))
+
+-- every refusal has a number above 0
+pub above : (r : reason.Refusal.Refusal) → number_of r ≡ 0 → ⊥
+above OutOfRange e = omega arith
+above UnsoundBook e = omega arith
+above UnknownNumber e = omega arith
+above StaleNumber e = omega arith
+above CouldTrade e = omega arith
+above BookFull e = omega arith
+above TooManyShares e = omega arith
+above SmallBuffer e = omega arith
+above LadderLength e = omega arith
+above OtherLadder e = omega arith
+above NoOldForm e = omega arith
+above UnfitTarget e = omega arith
 
 -- Where an accepted call leaves a sound book.
 module _ (call : Changed) (s : List ℕ) (keeps : call.refusal ≡ 0 → sound call.book ≡ true) where

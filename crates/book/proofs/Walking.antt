@@ -1,129 +1,101 @@
--- Walking over a book: its records and orders from a byte on, and one turn of each loop over them.
-use Prim.Native.Nat.{ℕ, suc, ◌+◌, ◌-◌, ◌≤◌, ◌<◌}
-use mathlib.Core.Path.{◌≡◌, sym, ap, ◌∙◌}
-use mathlib.Core.Bool.{Bool, true, false, ◌&&◌, ◌||◌, and-true, or-false, and_assoc, or_assoc}
-use mathlib.Core.List.{List, [], ◌∷◌, map}
+-- Walking over a book's records: as they are cut from its bytes, and one turn of the loops over them and their orders.
+use Prim.Native.Nat.{ℕ, zero, suc, ◌+◌, ◌-◌, ◌*◌, ◌/◌, ◌≤◌, ◌<◌}
+use mathlib.Core.Path.{◌≡◌, refl, sym, ap, ap₂, ◌∙◌}
+use mathlib.Core.Bool.{Bool, ◌&&◌, ◌||◌, and-true, or-false, and_assoc, or_assoc}
+use mathlib.Core.List.{List, [], ◌∷◌, ◌++◌, map}
 use native.Mathlib.Omega.{arith}
-use native.Mathlib.Nat.{add-zero}
-use lib.ListN.{length, get_or, take, drop}
-use lib.Seq.{drop-drop, get_or-take, get_or-drop}
-use lib.Dec.{ltb}
+use native.Mathlib.Nat.{mul-suc, add-div_right, mul-div_cancel_left, div-eq_of_lt}
+use Rattle.std.specs.List.{fold}
+use Rattle.std.specs.Simd.{first_chunks}
+use native.Mathlib.Numerals.{add-one}
+use lib.ListN.{length, get_or, take, drop, drop_of_length-le, length-append}
+use Rattle.std.proofs.lemmas.List.{take-take, drop-take}
+use lib.Seq.{length-take-le, take_at, drop_at, drop-cons}
 use borrow.Author.Tests.{eq-eqb, ne_eqb}
-use Rattle.units.specs.Lists.{all, any, is_zero}
+use Rattle.units.specs.Lists.{all, any}
 use Rattle.orders.specs.declared.order.Order.{Order}
+use Rattle.record.specs.declared.form.RecordForm.{RecordForm}
+use Rattle.record.specs.declared.form.RecordForm.TheVariants.{Old, New}
+use Rattle.record.specs.Names.{form_of}
 use Rattle.record.specs.Record.{OrderForm, order_bytes, decode_order}
-use Rattle.book.specs.Sound.{form, rising, is_unused, occupied, first_records, first_orders}
-use Rattle.book.specs.Lookup.{is_named, place_of}
+use Rattle.book.specs.Sound.{form, occupied, first_records, records_in}
 
--- Records of any form, from byte `at` on, with n of them to go.
-module _ (f : OrderForm) (s : List ℕ) (at n : ℕ) where
-  -- those behind the first
-  abbrev others : List (List ℕ)
-  others = first_records f (n - 1) (drop (at + order_bytes f) s)
+-- Records of any form.
+module _ (f : OrderForm) where
+  -- they are the chunks of its width
+  pub chunks_records : (n : ℕ) (s : List ℕ) → first_chunks (order_bytes f) n s ≡ first_records f n s
+  chunks_records zero s = refl
+  chunks_records (suc n) s = ap (λ rs. take (order_bytes f) s ∷ rs) (chunks_records n (drop (order_bytes f) s))
 
-  -- Where there are some.
-  module _ (h : 0 < n) where
-    -- the first record, and those behind it
-    pub records_more : first_records f n (drop at s) ≡ take (order_bytes f) (drop at s) ∷ others
-    records_more =
-        let e : n ≡ suc (n - 1) = omega arith in
-        ap (λ k. first_records f k (drop at s)) e ∙ rw (drop-drop (order_bytes f) at s)
+  -- the first are those of their bytes, and what is behind these doesn't matter
+  pub records_take : (n m : ℕ) (s : List ℕ) → order_bytes f * n ≤ m → first_records f n (take m s) ≡ first_records f n s
+  records_take zero m s h = refl
+  records_take (suc n) m s h =
+      let w = order_bytes f in
+      let l : w + w * n ≤ m = omega (arith, mul-suc w n) in
+      let e : w + (m - w) ≡ m = omega arith in
+      let rest : drop w (take m s) ≡ take (m - w) (drop w s) = ap (λ k. drop w (take k s)) (sym e) ∙ drop-take w (m - w) s in
+      ap₂ ◌∷◌ (take-take w m s (omega arith)) (ap (first_records f n) rest ∙ records_take n (m - w) (drop w s) (omega arith))
 
-    -- a test of every record, gathered: whether those so far passed, and this one, and those behind it
-    pub all_more : (p : List ℕ → Bool) (x : Bool)
-        → ((x && p (take (order_bytes f) (drop at s))) && all p others) ≡ (x && all p (first_records f n (drop at s)))
-    all_more p x = and_assoc x (p (take (order_bytes f) (drop at s))) (all p others) ∙ ap (λ rs. x && all p rs) (sym records_more)
+  -- and all of these
+  pub records_front : 1 ≤ order_bytes f → (n : ℕ) (s : List ℕ) → order_bytes f * n ≤ length s
+      → (length (take (order_bytes f * n) s) / order_bytes f ≡ n) × (records_in f (take (order_bytes f * n) s) ≡ first_records f n s)
+  records_front some n s h =
+      let w = order_bytes f in
+      let e : length (take (w * n) s) / w ≡ n = ap (λ k. k / w) (length-take-le (w * n) s h) ∙ mul-div_cancel_left n some in
+      (e, ap (λ k. first_records f k (take (w * n) s)) e ∙ records_take n (w * n) s (omega arith))
 
-    -- A record has a first byte.
-    module _ (some : 1 ≤ order_bytes f) where
-      -- it is unused where that is zero
-      unused_at : is_unused (take (order_bytes f) (drop at s)) ≡ is_zero (get_or s at 0)
-      unused_at = rw (get_or-take (order_bytes f) (drop at s) 0 0 some, get_or-drop at s 0 0, add-zero at)
+-- A test of every item, gathered in a fold.
+module _ {A B : Type 0} (v : A → B) (p : B → Bool) where
+  -- whether all passed
+  pub all_folded : (b : Bool) (xs : List A) → fold (λ a x. a && p (v x)) b xs ≡ (b && all p (map v xs))
+  all_folded b [] = sym (and-true b)
+  all_folded b (x ∷ xs) = all_folded (b && p (v x)) xs ∙ and_assoc b (p (v x)) (all p (map v xs))
 
-      -- an occupied record is one more than those behind it
-      pub count_more : (get_or s at 0 ≡ 0 → ⊥) → length (occupied (first_records f n (drop at s))) ≡ suc (length (occupied others))
-      count_more e = ap (λ rs. length (occupied rs)) records_more ∙ rw (unused_at, ne_eqb (get_or s at 0) 0 e)
+  -- whether any did
+  pub any_folded : (b : Bool) (xs : List A) → fold (λ a x. a || p (v x)) b xs ≡ (b || any p (map v xs))
+  any_folded b [] = sym (or-false b)
+  any_folded b (x ∷ xs) = any_folded (b || p (v x)) xs ∙ or_assoc b (p (v x)) (any p (map v xs))
 
-      -- an unused one ends the count
-      pub count_stop : get_or s at 0 ≡ 0 → length (occupied (first_records f n (drop at s))) ≡ 0
-      count_stop e = ap (λ rs. length (occupied rs)) records_more ∙ rw (unused_at, eq-eqb (get_or s at 0) 0 e)
+-- A form's record has bytes.
+pub has_bytes : (form : RecordForm) → 1 ≤ order_bytes (form_of form)
+has_bytes Old = omega arith
+has_bytes New = omega arith
 
-  -- Where there are none.
-  module _ (h : n ≤ 0) where
-    -- no record is left
-    pub records_done : first_records f n (drop at s) ≡ []
-    records_done =
-        let e : n ≡ 0 = omega arith in
-        rw e
+-- Records of any form, cut off one by one.
+module _ (f : OrderForm) (some : 1 ≤ order_bytes f) (s : List ℕ) where
+  -- A record's bytes, and those behind it.
+  module _ (r t : List ℕ) (e : s ≡ r ++ t) (l : length r ≡ order_bytes f) where
+    -- they hold it and the records behind it
+    pub records_next : records_in f s ≡ r ∷ records_in f t
+    records_next =
+        let w = order_bytes f in
+        let k : length s ≡ length t + w = omega (arith, ap length e, length-append r t) in
+        let n : length s / w ≡ suc (length t / w) = rw k (omega (arith, add-div_right (length t) some)) in
+        ap (λ n. first_records f n s) n
+        ∙ ap₂ (λ x y. x ∷ first_records f (length t / w) y) (ap (take w) e ∙ take_at r t w l) (ap (drop w) e ∙ drop_at r t w l)
 
-    -- none counts
-    pub count_done : length (occupied (first_records f n (drop at s))) ≡ 0
-    count_done = ap (λ rs. length (occupied rs)) records_done
+    -- where it is unused, none comes before the first unused one
+    pub occupied_stop : get_or r 0 0 ≡ 0 → length (occupied (records_in f s)) ≡ 0
+    occupied_stop z = ap (λ rs. length (occupied rs)) records_next ∙ rw (eq-eqb (get_or r 0 0) 0 z)
 
-    -- whether those so far passed the test is the answer
-    pub all_done : (p : List ℕ → Bool) (x : Bool) → (x && all p (first_records f n (drop at s))) ≡ x
-    all_done p x = ap (λ rs. x && all p rs) records_done ∙ and-true x
+    -- else it is one more than those behind it
+    pub occupied_next : (get_or r 0 0 ≡ 0 → ⊥) → length (occupied (records_in f s)) ≡ suc (length (occupied (records_in f t)))
+    occupied_next z = ap (λ rs. length (occupied rs)) records_next ∙ rw (ne_eqb (get_or r 0 0) 0 z)
 
--- Orders of the new form, from byte `at` on, with n of them to go.
-module _ (s : List ℕ) (at n : ℕ) where
-  -- Where there are some.
-  module _ (h : 0 < n) where
-    -- the first order, and those behind it
-    pub orders_more : first_orders n (drop at s) ≡ decode_order form (take 40 (drop at s)) ∷ first_orders (n - 1) (drop (at + 40) s)
-    orders_more = ap (map (decode_order form)) (records_more form s at n h)
+  -- fewer bytes hold none
+  pub records_end : length s < order_bytes f → records_in f s ≡ []
+  records_end h = ap (λ n. first_records f n s) (div-eq_of_lt h)
 
-    -- The first order, as it is read.
-    module _ (o : Order) (q : o ≡ decode_order form (take 40 (drop at s))) where
-      -- it, and those behind it
-      pub orders_read : first_orders n (drop at s) ≡ o ∷ first_orders (n - 1) (drop (at + 40) s)
-      orders_read = orders_more ∙ ap (λ x. x ∷ first_orders (n - 1) (drop (at + 40) s)) (sym q)
+-- Records whose orders are read one by one.
+module _ (rs : List (List ℕ)) (i : ℕ) where
+  -- the order of record i, as it is read, stands in front of those behind it
+  pub orders_next : i < length rs → (d : List ℕ) {o : Order} → o ≡ decode_order form (get_or rs i d)
+      → map (decode_order form) (drop i rs) ≡ o ∷ map (decode_order form) (drop (i + 1) rs)
+  orders_next h d q =
+      let e : drop i rs ≡ get_or rs i d ∷ drop (i + 1) rs = rw add-one (drop-cons rs i d h) in
+      ap (map (decode_order form)) e ∙ ap (λ o. o ∷ map (decode_order form) (drop (i + 1) rs)) (sym q)
 
-      -- the numbers so far rise, this one is above the last, and those behind it rise above it
-      pub rising_more : (last : ℕ) (x : Bool)
-          → ((x && ltb last o.number) && rising o.number (first_orders (n - 1) (drop (at + 40) s))) ≡ (x && rising last (first_orders n (drop at s)))
-      rising_more last x =
-          and_assoc x (ltb last o.number) (rising o.number (first_orders (n - 1) (drop (at + 40) s)))
-          ∙ ap (λ os. x && rising last os) (sym orders_read)
-
-      -- an order that isn't named stands before the one that is looked for
-      pub place_more : (k number : ℕ) → is_named k number o ≡ false
-          → place_of k number (first_orders n (drop at s)) ≡ suc (place_of k number (first_orders (n - 1) (drop (at + 40) s)))
-      place_more k number e = ap (place_of k number) orders_read ∙ rw e
-
-      -- the order that is named has none before it
-      pub place_stop : (k number : ℕ) → is_named k number o ≡ true → place_of k number (first_orders n (drop at s)) ≡ 0
-      place_stop k number e = ap (place_of k number) orders_read ∙ rw e
-
-      -- An answer x that is gathered order by order.
-      module _ (p : Order → Bool) (x : Bool) where
-        -- that one passes the test, so far or in what is to come
-        pub or_more : ((x || p o) || any p (first_orders (n - 1) (drop (at + 40) s))) ≡ (x || any p (first_orders n (drop at s)))
-        or_more =
-            or_assoc x (p o) (any p (first_orders (n - 1) (drop (at + 40) s))) ∙ ap (λ os. x || any p os) (sym orders_read)
-
-        -- that all pass
-        pub and_more : ((x && p o) && all p (first_orders (n - 1) (drop (at + 40) s))) ≡ (x && all p (first_orders n (drop at s)))
-        and_more =
-            and_assoc x (p o) (all p (first_orders (n - 1) (drop (at + 40) s))) ∙ ap (λ os. x && all p os) (sym orders_read)
-
-  -- Where there are none.
-  module _ (h : n ≤ 0) where
-    -- no order is left
-    pub orders_done : first_orders n (drop at s) ≡ []
-    orders_done = ap (map (decode_order form)) (records_done form s at n h)
-
-    -- whether the numbers so far rise is the answer
-    pub rising_done : (last : ℕ) (x : Bool) → (x && rising last (first_orders n (drop at s))) ≡ x
-    rising_done last x = ap (λ os. x && rising last os) orders_done ∙ and-true x
-
-    -- none stands before the one that is looked for
-    pub place_done : (k number : ℕ) → place_of k number (first_orders n (drop at s)) ≡ 0
-    place_done k number = ap (place_of k number) orders_done
-
-    -- What is gathered is the answer.
-    module _ (p : Order → Bool) (x : Bool) where
-      pub or_done : (x || any p (first_orders n (drop at s))) ≡ x
-      or_done = ap (λ os. x || any p os) orders_done ∙ or-false x
-
-      pub and_done : (x && all p (first_orders n (drop at s))) ≡ x
-      and_done = ap (λ os. x && all p os) orders_done ∙ and-true x
+  -- behind the last there are none
+  pub orders_end : length rs ≤ i → map (decode_order form) (drop i rs) ≡ []
+  orders_end h = ap (map (decode_order form)) (drop_of_length-le rs h)

@@ -8,7 +8,8 @@ use Rattle.orders.specs.declared.order.Order.{Order}
 use Rattle.record.specs.Codec.{encode, decode}
 use Rattle.record.specs.Record.{numbers_of, order_of, numbers_sound, new_tells}
 use Rattle.book.specs.Sound.{sound, orders_of, book_of, capacity_of, order_at}
-use Rattle.book.specs.Occupancy.{occupancy_of}
+use Rattle.book.specs.declared.refusal.Refusal.TheVariants.{UnsoundBook}
+use Rattle.book.specs.Answer.{number_of}
 use Rattle.book.specs.Lookup.{check_call, find_call, found_part}
 use Rattle.book.specs.Securities.{records_for}
 
@@ -76,9 +77,8 @@ counting =
     eqb (check_call 2 shared).orders 0 ∷
     eqb (check_call 2 (set shared 0 1)).refusal 1 ∷
     -- the records in use are those of both
-    eqb (occupancy_of shared).records 3 ∷
-    eqb (occupancy_of (set shared 0 1)).refusal 2 ∷
-    eqb (occupancy_of (set shared 0 1)).records 0 ∷
+    eqb (length (orders_of shared)) 3 ∷
+    (not (sound (set shared 0 1)) && eqb (number_of UnsoundBook) 2) ∷
     eqb (length (records_for 0 shared)) 2 ∷
     same_numbers (flat_map (λ r. r) (records_for 1 shared)) (take 40 (drop 40 shared)) ∷
     same_numbers (flat_map (λ r. r) (records_for 0 shared)) (take 40 shared ++ take 40 (drop 80 shared)) ∷ []
@@ -111,7 +111,7 @@ unfolding sharing shared order sound orders_of book_of encode decode numbers_of 
 sharing_worked = refl
 
 counting_worked : all (λ b. b) counting ≡ true
-unfolding counting crossed shared order sound orders_of book_of occupancy_of check_call encode decode numbers_of order_of numbers_sound new_tells
+unfolding counting crossed shared order sound orders_of book_of check_call encode decode numbers_of order_of numbers_sound new_tells
 counting_worked = refl
 
 finding_worked : all (λ b. b) finding ≡ true

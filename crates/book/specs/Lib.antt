@@ -1,7 +1,7 @@
 pub mod Sound
 pub mod Change
 pub mod Refusal
-pub mod Occupancy
+pub mod Answer
 pub mod Lookup
 pub mod Securities
 pub mod Examples

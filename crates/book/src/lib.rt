@@ -2,16 +2,15 @@
 #![tactic(auto)]
 
 pub mod records;
+pub mod refusal;
 
-// What is known of a book before anything is done with it: its refusal, 2 or 0, and how many of its records are in use, by orders of
-// whichever security.
-#[derive(Clone, Copy)]
-pub struct Occupancy {
-    pub refusal: u32,
-    pub records: usize,
-}
+ghost use Rattle.std.specs.Prelude.{◌≡◌};
+ghost use Rattle.book.specs.Answer.{checked, found};
 
-// What check answers: its refusal, and how many orders a security has.
+use records::RECORD_BYTES;
+use refusal::Refusal;
+
+// What check answers in C: its refusal, and how many orders a security has.
 #[repr(C)]
 #[derive(Clone, Copy)]
 pub struct Checked {
@@ -19,11 +18,48 @@ pub struct Checked {
     pub orders: u32,
 }
 
-// What find answers: where the order's own record lies in the book.
+impl From<Result<u32, Refusal>> for Checked {
+    ghost from_gives = { λ answer c. c ≡ checked answer };
+
+    fn from(answer: Result<u32, Refusal>) -> Checked
+        ensures { result ≡ checked answer }
+    {
+        match answer {
+            Ok(orders) => Checked { refusal: 0, orders },
+            Err(refusal) => Checked {
+                refusal: refusal.into(),
+                orders: 0,
+            },
+        }
+    }
+}
+
+// What find answers in C: where the order's own record lies in the book.
 #[repr(C)]
 #[derive(Clone, Copy)]
 pub struct Found {
     pub refusal: u32,
     pub start: usize,
     pub length: usize,
+}
+
+impl From<Result<usize, Refusal>> for Found {
+    ghost from_gives = { λ answer f. f ≡ found answer };
+
+    fn from(answer: Result<usize, Refusal>) -> Found
+        ensures { result ≡ found answer }
+    {
+        match answer {
+            Ok(start) => Found {
+                refusal: 0,
+                start,
+                length: RECORD_BYTES,
+            },
+            Err(refusal) => Found {
+                refusal: refusal.into(),
+                start: 0,
+                length: 0,
+            },
+        }
+    }
 }

@@ -1,8 +1,7 @@
 -- The two forms by name: their laws, their widths, and records read one behind the other.
-use Prim.Native.Nat.{ℕ, suc, ◌+◌, ◌-◌, ◌*◌, ◌≤◌, ◌<◌}
+use Prim.Native.Nat.{◌≤◌}
 use mathlib.Core.Path.{◌≡◌, refl}
 use native.Mathlib.Omega.{arith}
-use native.Mathlib.Nat.{mul-suc}
 use lib.ListN.{length}
 use Rattle.record.specs.declared.form.RecordForm.{RecordForm}
 use Rattle.record.specs.declared.form.RecordForm.TheVariants.{Old, New}
@@ -23,10 +22,3 @@ width New = omega arith
 pub length_mark : (f : RecordForm) → length (form_of f).layout.mark ≡ 2
 length_mark Old = refl
 length_mark New = refl
-
--- of some records there is one, and those behind it
-pub width_more : (w n : ℕ) → 0 < n → w * n ≡ w + w * (n - 1)
-width_more w n h =
-    let e : n ≡ suc (n - 1) = omega arith in
-    let m : w * n ≡ w * suc (n - 1) = rw (← e) in
-    omega (arith, m, mul-suc w (n - 1))

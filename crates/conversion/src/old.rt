@@ -5,6 +5,7 @@ ghost use Rattle.book.specs.Sound.{occupied, records_in, sound_in};
 ghost use Rattle.conversion.specs.Conversion.{is_whole};
 
 use crate::turning;
+use book::records;
 use record::bytes;
 use record::form::RecordForm;
 
@@ -15,23 +16,7 @@ const OLD_BYTES: usize = 32;
 pub(crate) fn count_occupied(book: &[u8]) -> usize
     ensures { (result ≡ length (occupied (records_in old_form book.now))) × (32 * result ≤ length book.now) }
 {
-    let mut at = 0;
-    let mut left = book.len() / OLD_BYTES;
-    let mut n = 0;
-    while 0 < left {
-        if book[at] == 0 {
-            return n;
-        }
-        at += OLD_BYTES;
-        left -= 1;
-        n += 1;
-    }
-    n
-}
-
-// Memory for a book of the new form.
-fn no_records() -> [u8; 10240] {
-    [0; 10240]
+    records::count_occupied(RecordForm::Old, book)
 }
 
 // Whether a book of n orders, and of a length that a book may have, is sound: it has records of its own form and zeros behind them, and would
@@ -42,10 +27,9 @@ pub(crate) fn is_sound(book: &[u8], n: usize) -> bool
         × (32 * n ≤ length book.now) }
     ensures { result ≡ sound_in old_form book.now }
 {
-    let mut renewed = no_records();
+    let mut renewed = [0; 10_240];
     let end = turning::turn(book, RecordForm::Old, &mut renewed, RecordForm::New, n);
-    let occupancy = lookup::occupancy(&renewed[..end]);
     turning::are_plain(book, RecordForm::Old, n)
         & bytes::zeros(&book[OLD_BYTES * n..])
-        & (occupancy.refusal == 0)
+        & lookup::occupancy(&renewed[..end]).is_ok()
 }

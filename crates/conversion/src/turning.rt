@@ -8,6 +8,7 @@ ghost use Rattle.book.specs.Sound.{first_records};
 ghost use Rattle.conversion.specs.Conversion.{turned, turned_book, is_whole, is_unfit};
 ghost use Rattle.conversion.specs.Plain.{is_plain};
 
+use book::records;
 use record::bytes;
 use record::form::RecordForm;
 
@@ -15,8 +16,7 @@ use record::form::RecordForm;
 pub(crate) fn is_whole(form: RecordForm, length: usize) -> bool
     ensures { result ≡ is_whole (form_of form) length }
 {
-    let width = form.bytes();
-    (length <= 256 * width) & (length % width == 0)
+    records::is_whole(form, length)
 }
 
 // Whether so many bytes aren't, or have room for fewer than n orders.
@@ -28,6 +28,7 @@ pub(crate) fn is_unfit(form: RecordForm, length: usize, n: usize) -> bool
 }
 
 // Whether the old form tells what a record says; its mark is of its own form. The bytes that say it stand at the same places in both.
+#[tactic(auto, using(crate::proofs::Plainness::plain_bytes))]
 fn is_plain(rec: &[u8], form: RecordForm) -> bool
     requires { 32 ≤ length rec.now }
     ensures { result ≡ is_plain (form_of form) rec.now }
@@ -45,17 +46,14 @@ pub(crate) fn are_plain(book: &[u8], form: RecordForm, n: usize) -> bool
 {
     let width = form.bytes();
     let mut plain = true;
-    let mut at = 0;
-    let mut left = n;
-    while 0 < left {
-        plain = plain & is_plain(&book[at..at + width], form);
-        at += width;
-        left -= 1;
+    for rec in book[..width * n].chunks_exact(width) {
+        plain = plain & is_plain(rec, form);
     }
     plain
 }
 
 // A record goes to a place of the target, in its form.
+#[tactic(auto, using(crate::proofs::Turned::put_parts))]
 fn put_turned(target: &mut [u8], at: usize, form: RecordForm, rec: &[u8])
     requires { (at + order_bytes (form_of form) ≤ length target.old) × (32 ≤ length rec.now) }
     ensures { target.new ≡ replaced at (turned (form_of form) rec.now) target.old }
@@ -80,19 +78,16 @@ pub(crate) fn turn(
 {
     let width = from.bytes();
     let step = to.bytes();
-    let mut read = 0;
     let mut write = 0;
-    let mut left = n;
-    while 0 < left {
-        put_turned(target, write, to, &book[read..read + width]);
-        read += width;
+    for rec in book[..width * n].chunks_exact(width) {
+        put_turned(target, write, to, rec);
         write += step;
-        left -= 1;
     }
     write
 }
 
 // The target becomes the book of these records in its form: zeros come behind them.
+#[tactic(auto, using(crate::proofs::Filling::filled_book))]
 pub(crate) fn fill(book: &[u8], from: RecordForm, target: &mut [u8], to: RecordForm, n: usize)
     requires { (order_bytes (form_of from) * n ≤ length book.now) × (order_bytes (form_of to) * n ≤ length target.old) }
     ensures { target.new ≡ turned_book (form_of to) (length target.old) (first_records (form_of from) n book.now) }

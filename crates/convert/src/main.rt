@@ -1,20 +1,24 @@
 // convert: reads a book from standard input and writes it in the other form to standard output.
 #![tactic(auto)]
 
-ghost use Rattle.std.specs.Prelude.{◌≤◌, IfOk, length};
+ghost use Rattle.std.specs.Prelude.{◌≡◌, ◌≤◌, IfOk, length};
 
+use book::refusal::Refusal;
 use record::form::RecordForm;
 use std::io;
-use std::io::Read;
+use std::io::{Cursor, Read};
 
-fn write(rt: &impl Print, text: &[u8]) -> io::Result<()> {
-    rt.write_all(text)
-}
+// A book's length, at most.
+const MOST_BYTES: usize = 10_240;
 
+// One byte more is read.
+const ROOM: usize = MOST_BYTES + 1;
+
+// Stands in fillsheet too: a function of both that prints would be a crate of its own, with a contract that says nothing.
 fn write_refusal(rt: &impl Print, refusal: u32) -> io::Result<()> {
     let mut line = [0u8; 33];
     let n = listing::refusal_line(refusal, &mut line);
-    write(rt, &line[..n])
+    rt.write_all(&line[..n])
 }
 
 // How many records of a length so many bytes are, at most 256.
@@ -22,8 +26,7 @@ fn records(bytes: usize, width: usize) -> usize
     requires { 32 ≤ width }
     ensures { result ≤ 256 }
 {
-    let n = bytes / width;
-    if n <= 256 { n } else { 256 }
+    (bytes / width).min(256)
 }
 
 // The bytes of as many records of a form as a book of so many bytes has in the other.
@@ -36,69 +39,37 @@ fn same_room(form: RecordForm, bytes: usize) -> usize
     }
 }
 
-// The book goes to the target in a form.
-fn turn(book: &[u8], form: RecordForm, target: &mut [u8]) -> u32 {
-    match form {
-        RecordForm::New => conversion::to_new(book, target),
-        RecordForm::Old => conversion::to_old(book, target),
-    }
-}
-
-// And the target is written out, unless that is refused. Gives the refusal.
-fn write_turned(
-    rt: &impl Print,
-    book: &[u8],
-    form: RecordForm,
-    target: &mut [u8],
-) -> io::Result<u32> {
-    let refusal = turn(book, form, target);
-    if refusal == 0 {
-        write(rt, target)?;
-    }
-    Ok(refusal)
-}
-
-// Memory for the longest book.
-fn no_bytes() -> [u8; 10240] {
-    [0; 10240]
-}
-
-// The book is written out in a form, with as many records as it has in the other, unless that is refused. Gives the refusal.
-fn write_in(rt: &impl Print, form: RecordForm, book: &[u8]) -> io::Result<u32> {
-    let mut target = no_bytes();
-    let end = same_room(form, book.len());
-    write_turned(rt, book, form, &mut target[..end])
-}
-
-// A book that is sound in the old form goes to the new one; any other is taken as one of the new form.
-fn convert(rt: &impl Print, book: &[u8]) -> io::Result<()> {
-    if write_in(rt, RecordForm::New, book)? != 0 {
-        let refusal = write_in(rt, RecordForm::Old, book)?;
-        if refusal != 0 {
-            write_refusal(rt, refusal)?;
-        }
-    }
-    Ok(())
-}
-
-// Reads until the buffer is full or the input ends. Gives how many bytes stand at its start.
-fn read_full(input: &mut impl Read, buffer: &mut [u8]) -> io::Result<usize>
-    ensures { IfOk result (λ n. n ≤ length buffer.new) }
+// The book goes to the target's front in a form, with as many records as it has in the other. Gives its length there, or the refusal.
+fn turn(book: &[u8], form: RecordForm, target: &mut [u8]) -> Result<usize, Refusal>
+    requires { length target.old ≡ 10240 }
+    ensures { IfOk result (λ n. n ≤ length target.new) }
 {
-    let mut done = 0;
-    while done < buffer.len() {
-        let n = input.read(&mut buffer[done..])?;
-        if n == 0 {
-            return Ok(done);
-        }
-        done += n;
+    let end = same_room(form, book.len());
+    let target = &mut target[..end];
+    match form {
+        RecordForm::New => conversion::to_new(book, target)?,
+        RecordForm::Old => conversion::to_old(book, target)?,
     }
-    Ok(done)
+    Ok(end)
+}
+
+// A book that is sound in the old form goes to the new one, and any other is taken as one of the new form. The first refusal left the
+// target as it was.
+fn convert(rt: &impl Print, book: &[u8]) -> io::Result<()> {
+    let mut target = [0u8; MOST_BYTES];
+    let turned = match turn(book, RecordForm::New, &mut target) {
+        Ok(n) => Ok(n),
+        Err(_) => turn(book, RecordForm::Old, &mut target),
+    };
+    match turned {
+        Ok(n) => rt.write_all(&target[..n]),
+        Err(refusal) => write_refusal(rt, refusal.into()),
+    }
 }
 
 // One byte more than the longest book is read, so that a longer one is refused.
 fn main(rt: HostRuntime) -> io::Result<()> {
-    let mut input = [0u8; 10241];
-    let n = read_full(&mut rt.stdin(), &mut input)?;
-    convert(&rt, &input[..n])
+    let mut input = Cursor::new([0u8; ROOM]);
+    let n = io::copy(&mut rt.stdin().take(ROOM as u64), &mut input)? as usize;
+    convert(&rt, &input.get_ref()[..n.min(ROOM)])
 }

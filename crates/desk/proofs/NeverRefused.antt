@@ -8,6 +8,7 @@ use native.Mathlib.Omega.{arith}
 use lib.Dec.{eqb}
 use lib.ListN.{length, drop, length-append, length-drop}
 use borrow.Author.Tests.{eqb-true, eqb-false, ne_eqb, le-ltb}
+use Rattle.std.specs.Prelude.{Option, Some, None, Ok, Err}
 use Rattle.units.specs.Lists.{flat_map}
 use Rattle.units.specs.Lots.{round_lot}
 use Rattle.record.specs.declared.execution.Execution.{Execution}
@@ -23,6 +24,7 @@ use Rattle.entry.specs.Add.{add_refusals, add_call}
 use Rattle.entry.specs.Reduce.{reduce_refusals, reduce_call}
 use Rattle.entry.proofs.Adding.{add_sound}
 use Rattle.entry.proofs.Reducing.{reduce_sound}
+use Rattle.matching.specs.declared.Filled.{Filled}
 use Rattle.matching.specs.declared.TakeRequest.{TakeRequest}
 use Rattle.matching.specs.Paragraph.{algorithm_of}
 use Rattle.matching.specs.Take.{outcome}
@@ -32,10 +34,8 @@ use Rattle.matching.proofs.Counting.{executions_most}
 use Rattle.matching.proofs.Before.{take_without_reserve}
 use Rattle.matching.proofs.Taking.{take_sound, take_written}
 use Rattle.script.specs.declared.command.Command.{Command}
-use Rattle.script.specs.declared.command.Command.TheVariants.{Choose, Add, Reduce, Take, Nothing}
-use Rattle.desk.specs.declared.Answer.{Answer}
-use Rattle.desk.specs.declared.Answer.TheVariants.{Silent, Refused, Listed}
-use Rattle.desk.specs.Desk.{refused_or, Desk, performed}
+use Rattle.script.specs.declared.command.Command.TheVariants.{Choose, Add, Reduce, Take}
+use Rattle.desk.specs.Desk.{Answer, refused_or, Desk, performed}
 use Rattle.desk.proofs.Plain.{add_plain, reduce_plain}
 
 -- a sound book without reserve orders, and room for 256 executions
@@ -44,14 +44,18 @@ pub record Ready (d : Desk) : Type 0 where
   pub plain : without_reserve (orders_of d.book) ≡ true
   pub room : 4096 ≤ length d.executions
 
+-- an accepted answer is no refusal
+accepted_is : (a : Option Filled) (n : ℕ) → ◌≡◌ {A = Answer} (Ok a) (Err n) → ⊥
+accepted_is a n e = let z : ◌≡◌ {A = ℕ} 0 1 = cc in omega arith
+
 -- an answer that is a refusal has the call's number
-refused_is : (b : Bool) (r n : ℕ) (a : Answer) → (a ≡ Refused n → ⊥) → cond b a (Refused r) ≡ Refused n → r ≡ n
-refused_is true r n a h e = absurd (h e)
-refused_is false r n a h e = cc
+refused_is : (b : Bool) (r n : ℕ) (a : Option Filled) → ◌≡◌ {A = Answer} (cond b (Ok a) (Err r)) (Err n) → r ≡ n
+refused_is true r n a e = absurd (accepted_is a n e)
+refused_is false r n a e = cc
 
 -- the first of a call's refusals is the one it answers with
-was_given : (rs : List Refusal) (n : ℕ) (a : Answer) → (a ≡ Refused n → ⊥) → refused_or (first_refusal rs) a ≡ Refused n → first_refusal rs ≡ n
-was_given rs n a h e = refused_is (is_accepted (first_refusal rs)) (first_refusal rs) n a h e
+was_given : (rs : List Refusal) (n : ℕ) (a : Option Filled) → refused_or (first_refusal rs) a ≡ Err n → first_refusal rs ≡ n
+was_given rs n a e = refused_is (is_accepted (first_refusal rs)) (first_refusal rs) n a e
 
 -- a call is accepted or not
 decided : (r : ℕ) (P : Type 0) → (r ≡ 0 → P) → ((r ≡ 0 → ⊥) → P) → P
@@ -112,33 +116,27 @@ module _ (s : List ℕ) (h : sound s ≡ true) (p : without_reserve (orders_of s
     executions_fit =
         omega (arith, executions_most round_lot (algorithm_of q.algorithm) (incoming_of q) (orders_of s) (orders_sound s h).rise p, (sound_fits s h).1)
 
-silent_accepted : (n : ℕ) → Silent ≡ Refused n → ⊥
-silent_accepted n e = let z : ◌≡◌ {A = ℕ} 0 1 = cc in omega arith
-
-listed_accepted : (count left n : ℕ) → Listed count left ≡ Refused n → ⊥
-listed_accepted count left n e = let z : ◌≡◌ {A = ℕ} 0 1 = cc in omega arith
-
 module _ (d : Desk) (r : Ready d) where
   -- the desk stays so
-  pub stays_ready : (c : Command) → Ready (performed c d).desk
+  pub stays_ready : (c : Option Command) → Ready (performed c d).desk
   unfolding performed
-  stays_ready (Choose n) = record { book = r.book; plain = r.plain; room = r.room }
-  stays_ready (Add side kind number price size minimum) = record {
+  stays_ready (Some (Choose n)) = record { book = r.book; plain = r.plain; room = r.room }
+  stays_ready (Some (Add side kind number price size minimum)) = record {
     book = add_keeps d.book r.book r.plain _;
     plain = add_stays_plain d.book r.book r.plain _ refl refl;
     room = r.room;
   }
-  stays_ready (Reduce number shares) = record {
+  stays_ready (Some (Reduce number shares)) = record {
     book = reduce_keeps d.book r.book r.plain number shares;
     plain = reduce_stays_plain d.book r.book r.plain number shares;
     room = r.room;
   }
-  stays_ready (Take side limit size) = record {
+  stays_ready (Some (Take side limit size)) = record {
     book = take_keeps d.book r.book r.plain _ d.executions;
     plain = take_stays_plain d.book r.book r.plain _ d.executions;
     room = omega (arith, r.room, take_room d.book r.book r.plain (record { side = side; limit = limit; size = size; algorithm = d.algorithm; security = 0 }) d.executions);
   }
-  stays_ready Nothing = r
+  stays_ready None = r
 
   -- the refusals of each call
   abbrev adds : AddRequest → List Refusal
@@ -151,35 +149,35 @@ module _ (d : Desk) (r : Ready d) where
   takes q = refusals_of (take_refusals q (outcome_of q (orders_of d.book)).executions d.executions) (sound d.book)
 
   -- what an accepted take lists
-  abbrev listed : TakeRequest → Answer
-  listed q = let t = (take_call q d.book d.executions).taken in Listed t.count t.left
+  abbrev listed : TakeRequest → Option Filled
+  listed q = let t = (take_call q d.book d.executions).taken in Some (record { count = t.count; left = record { 0 = t.left } })
 
   -- no command is refused 2
-  pub never_2 : (c : Command) → (performed c d).answer ≡ Refused 2 → ⊥
+  pub never_2 : (c : Option Command) → (performed c d).answer ≡ Err 2 → ⊥
   unfolding performed add_call reduce_call take_call
-  never_2 (Choose n) e = silent_accepted 2 e
-  never_2 (Add side kind number price size minimum) e =
+  never_2 (Some (Choose n)) e = accepted_is None 2 e
+  never_2 (Some (Add side kind number price size minimum)) e =
       let q : AddRequest = record { side = side; kind = kind; number = number; price = price; size = size; minimum = minimum; hidden = 0; refresh = 0; security = 0 } in
-      not_given 2 (λ z. omega arith) (adds q) (rw r.book) (was_given (adds q) 2 Silent (silent_accepted 2) e)
-  never_2 (Reduce number shares) e =
-      not_given 2 (λ z. omega arith) (reduces number shares) (rw r.book) (was_given (reduces number shares) 2 Silent (silent_accepted 2) e)
-  never_2 (Take side limit size) e =
+      not_given 2 (λ z. omega arith) (adds q) (rw r.book) (was_given (adds q) 2 None e)
+  never_2 (Some (Reduce number shares)) e =
+      not_given 2 (λ z. omega arith) (reduces number shares) (rw r.book) (was_given (reduces number shares) 2 None e)
+  never_2 (Some (Take side limit size)) e =
       let q : TakeRequest = record { side = side; limit = limit; size = size; algorithm = d.algorithm; security = 0 } in
-      not_given 2 (λ z. omega arith) (takes q) (rw r.book) (was_given (takes q) 2 (listed q) (listed_accepted _ _ 2) e)
-  never_2 Nothing e = let z : ◌≡◌ {A = ℕ} 1 2 = cc in omega arith
+      not_given 2 (λ z. omega arith) (takes q) (rw r.book) (was_given (takes q) 2 (listed q) e)
+  never_2 None e = let z : ◌≡◌ {A = ℕ} 1 2 = cc in omega arith
 
   -- nor 8
-  pub never_8 : (c : Command) → (performed c d).answer ≡ Refused 8 → ⊥
+  pub never_8 : (c : Option Command) → (performed c d).answer ≡ Err 8 → ⊥
   unfolding performed add_call reduce_call take_call
-  never_8 (Choose n) e = silent_accepted 8 e
-  never_8 (Add side kind number price size minimum) e =
+  never_8 (Some (Choose n)) e = accepted_is None 8 e
+  never_8 (Some (Add side kind number price size minimum)) e =
       let q : AddRequest = record { side = side; kind = kind; number = number; price = price; size = size; minimum = minimum; hidden = 0; refresh = 0; security = 0 } in
-      not_given 8 (λ z. omega arith) (adds q) refl (was_given (adds q) 8 Silent (silent_accepted 8) e)
-  never_8 (Reduce number shares) e =
-      not_given 8 (λ z. omega arith) (reduces number shares) refl (was_given (reduces number shares) 8 Silent (silent_accepted 8) e)
-  never_8 (Take side limit size) e =
+      not_given 8 (λ z. omega arith) (adds q) refl (was_given (adds q) 8 None e)
+  never_8 (Some (Reduce number shares)) e =
+      not_given 8 (λ z. omega arith) (reduces number shares) refl (was_given (reduces number shares) 8 None e)
+  never_8 (Some (Take side limit size)) e =
       let q : TakeRequest = record { side = side; limit = limit; size = size; algorithm = d.algorithm; security = 0 } in
       let f = le-ltb (length d.executions) (16 * length (outcome_of q (orders_of d.book)).executions)
       (omega (arith, r.room, executions_fit d.book r.book r.plain q d.executions)) in
-      not_given 8 (λ z. omega arith) (takes q) (rw f) (was_given (takes q) 8 (listed q) (listed_accepted _ _ 8) e)
-  never_8 Nothing e = let z : ◌≡◌ {A = ℕ} 1 8 = cc in omega arith
+      not_given 8 (λ z. omega arith) (takes q) (rw f) (was_given (takes q) 8 (listed q) e)
+  never_8 None e = let z : ◌≡◌ {A = ℕ} 1 8 = cc in omega arith

@@ -2,103 +2,76 @@
 #![tactic(auto)]
 
 ghost use Rattle.std.specs.Prelude.{◌≡◌};
-ghost use Rattle.desk.specs.Desk.{desk_of, refused_or, performed};
+ghost use Rattle.book.specs.Answer.{numbered};
+ghost use Rattle.desk.specs.Desk.{desk_of, performed};
 
+use book::refusal::Refusal;
 use entry::admission::AddRequest;
-use matching::TakeRequest;
+use matching::{Filled, TakeRequest};
 use script::command::Command;
 
 // A fillsheet trades in one security.
 const SECURITY: u32 = 0;
 
-// What a command answers: nothing, its refusal, or how many executions a take wrote and the shares left.
-#[derive(Clone, Copy)]
-pub enum Answer {
-    Silent,
-    Refused(u32),
-    Listed { count: u32, left: u32 },
-}
-
-// The answer, and the algorithm from here on.
-#[derive(Clone, Copy)]
-pub struct Performance {
-    pub answer: Answer,
+// The algorithm is the number that a request for a take has.
+#[derive(Drop)]
+pub struct Desk<'a> {
+    pub book: &'a mut [u8],
+    pub executions: &'a mut [u8],
     pub algorithm: u32,
 }
 
-// The answer, unless the command was refused.
-fn refused_or(refusal: u32, answer: Answer) -> Answer
-    ensures { result ≡ refused_or refusal answer }
-{
-    if refusal == 0 {
-        answer
-    } else {
-        Answer::Refused(refusal)
-    }
-}
-
-// A command is given to the desk.
-pub fn perform(
-    command: Command,
-    book: &mut [u8],
-    executions: &mut [u8],
-    algorithm: u32,
-) -> Performance
-    ensures { record { answer = result.answer; desk = desk_of book.new executions.new result.algorithm }
-        ≡ performed command (desk_of book.old executions.old algorithm) }
-{
-    match command {
-        Command::Choose(chosen) => Performance {
-            answer: Answer::Silent,
-            algorithm: chosen,
-        },
-        Command::Add {
-            side,
-            kind,
-            number,
-            price,
-            size,
-            minimum,
-        } => {
-            let request = AddRequest {
+impl Desk<'_> {
+    // A command is given to the desk; a line that is none is refused. Only an accepted take has something to list.
+    pub fn perform(&mut self, command: Option<Command>) -> Result<Option<Filled>, Refusal>
+        ensures { record { answer = numbered result; desk = desk_of self.new.book.now self.new.executions.now self.new.algorithm }
+            ≡ performed command (desk_of self.old.book.now self.old.executions.now self.old.algorithm) }
+    {
+        let Some(command) = command else {
+            return Err(Refusal::OutOfRange);
+        };
+        match command {
+            Command::Choose(algorithm) => {
+                self.algorithm = algorithm;
+                Ok(None)
+            }
+            Command::Add {
                 side,
                 kind,
                 number,
                 price,
                 size,
                 minimum,
-                hidden: 0,
-                refresh: 0,
-                security: SECURITY,
-            };
-            let refusal = entry::add(book, request);
-            let answer = refused_or(refusal, Answer::Silent);
-            Performance { answer, algorithm }
+            } => {
+                let request = AddRequest {
+                    side,
+                    kind,
+                    number,
+                    price,
+                    size,
+                    minimum,
+                    hidden: 0,
+                    refresh: 0,
+                    security: SECURITY,
+                };
+                entry::add(self.book, request)?;
+                Ok(None)
+            }
+            Command::Reduce { number, shares } => {
+                entry::reduce(self.book, SECURITY, number, shares)?;
+                Ok(None)
+            }
+            Command::Take { side, limit, size } => {
+                let request = TakeRequest {
+                    side,
+                    limit,
+                    size,
+                    algorithm: self.algorithm,
+                    security: SECURITY,
+                };
+                let filled = take::take(self.book, self.executions, request)?;
+                Ok(Some(filled))
+            }
         }
-        Command::Reduce { number, shares } => {
-            let refusal = entry::reduce(book, SECURITY, number, shares);
-            let answer = refused_or(refusal, Answer::Silent);
-            Performance { answer, algorithm }
-        }
-        Command::Take { side, limit, size } => {
-            let request = TakeRequest {
-                side,
-                limit,
-                size,
-                algorithm,
-                security: SECURITY,
-            };
-            let taken = take::take(book, executions, request);
-            let listed = Answer::Listed {
-                count: taken.count,
-                left: taken.left,
-            };
-            let answer = refused_or(taken.refusal, listed);
-            Performance { answer, algorithm }
-        }
-        Command::Nothing => Performance {
-            answer: Answer::Refused(1),
-            algorithm,
-        },
     }
 }

@@ -11,6 +11,7 @@ use lib.ListN.{length, get_or, drop, set, length-set}
 use lib.Seq.{drop-cons, get_or-set_same, get_or-set_other}
 use borrow.Author.Count.{below_more}
 use borrow.Author.Tests.{ltb-true, ltb-false, le-leb}
+use Rattle.std.specs.Int.{from_bool}
 use Rattle.units.specs.Lists.{or_zero, sum}
 use Rattle.units.proofs.Tests.{pick_least}
 use Rattle.dividing.specs.Columns.{want_above, above, ahead_at, may_take, turn_at}
@@ -30,11 +31,11 @@ ahead_within x (suc k) (y ∷ ys) [] = omega arith
 ahead_within x (suc k) (y ∷ ys) (w ∷ ws) = omega (arith, pick_least (leb x y) w, ahead_within x k ys ws)
 
 -- one place more is added up, where a test picks it
-adds_up : (b : Bool) (w s next : ℕ) {rest whole most n : ℕ} → n ≡ or_zero b 1 → rest ≡ or_zero b w + next → whole ≤ most → s + rest ≡ whole
+adds_up : (b : Bool) (w s next : ℕ) {rest whole most n : ℕ} → n ≡ from_bool b → rest ≡ or_zero b w + next → whole ≤ most → s + rest ≡ whole
     → (s + n * w ≤ most) × (s + n * w + next ≡ whole)
 adds_up b w s next e r h i = let a = picked b w e in (omega arith, omega arith)
 
-pub above_more : (t : ℕ) (xs ws : List ℕ) (j : ℕ) → j < length xs → j < length ws → {n : ℕ} → n ≡ or_zero (ltb t (get_or xs j 0)) 1
+pub above_more : (t : ℕ) (xs ws : List ℕ) (j : ℕ) → j < length xs → j < length ws → {n : ℕ} → n ≡ from_bool (ltb t (get_or xs j 0))
     → (s : ℕ) → s + above t (drop j xs) (drop j ws) ≡ above t xs ws
     → (s + n * get_or ws j 0 ≤ sum ws) × (s + n * get_or ws j 0 + above t (drop (j + 1) xs) (drop (j + 1) ws) ≡ above t xs ws)
 above_more t xs ws j h k e s i = adds_up (ltb t (get_or xs j 0)) (get_or ws j 0) s _ e (ap sum (zip_more (want_above t) xs ws j h k)) (above_within t xs ws) i
@@ -43,7 +44,7 @@ above_more t xs ws j h k e s i = adds_up (ltb t (get_or xs j 0)) (get_or ws j 0)
 abbrev first : ℕ → ℕ → ℕ → ℕ → Bool
 first x k j y = ltb x y || (ltb j k && leb x y)
 
-pub ahead_more : (x k : ℕ) (ys ws : List ℕ) (j : ℕ) → j < length ys → j < length ws → {n : ℕ} → n ≡ or_zero (first x k j (get_or ys j 0)) 1
+pub ahead_more : (x k : ℕ) (ys ws : List ℕ) (j : ℕ) → j < length ys → j < length ws → {n : ℕ} → n ≡ from_bool (first x k j (get_or ys j 0))
     → (s : ℕ) → s + ahead_at x (k - j) (drop j ys) (drop j ws) ≡ ahead_at x k ys ws
     → (s + n * get_or ws j 0 ≤ sum ws) × (s + n * get_or ws j 0 + ahead_at x (k - (j + 1)) (drop (j + 1) ys) (drop (j + 1) ws) ≡ ahead_at x k ys ws)
 ahead_more x k ys ws j h l e s i = adds_up (first x k j (get_or ys j 0)) (get_or ws j 0) s _ e (go (ltb j k) refl) (ahead_within x k ys ws) i

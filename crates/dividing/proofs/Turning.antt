@@ -6,7 +6,7 @@ use mathlib.Core.List.{List, [], ◌∷◌, map, map-map}
 use native.Mathlib.Omega.{arith}
 use native.Mathlib.Nat.{zero-add, add-zero}
 use lib.Dec.{leb, ltb}
-use lib.ListN.{length, get_or, length-map}
+use lib.ListN.{length, get_or, replicate, length-map, length-replicate}
 use lib.Seq.{ext_get_or}
 use borrow.Author.Tests.{ltb-true, ltb-false, lt-ltb, le-ltb, eq-eqb, ne_eqb, le-leb, lt-leb}
 use Rattle.units.specs.Lists.{or_zero, zip_with}
@@ -102,21 +102,21 @@ size_round want ps rest {xs} {ws} {had} {has} c w l s =
     ∙ ap (λ ns. zip_with ◌+◌ had ns) (map_same ps (λ p i. takes want (rest - ahead larger want p ps) p (c.free p i))))
 
 -- a column on top of nothing
-on_nothing : (gs ns : List ℕ) → length ns ≡ length gs → zip_with ◌+◌ (map (λ x. 0) gs) ns ≡ ns
-on_nothing [] [] e = refl
-on_nothing [] (n ∷ ns) e = absurd (never {k = length ns} (omega arith))
-on_nothing (g ∷ gs) [] e = absurd (never {k = length gs} (omega arith))
-on_nothing (g ∷ gs) (n ∷ ns) e = let a = zero-add n in let b = on_nothing gs ns (omega arith) in cc
+on_nothing : (n : ℕ) (ns : List ℕ) → length ns ≡ n → zip_with ◌+◌ (replicate n 0) ns ≡ ns
+on_nothing zero [] e = refl
+on_nothing zero (m ∷ ns) e = absurd (never {k = length ns} (omega arith))
+on_nothing (suc n) [] e = absurd (never {k = n} (omega arith))
+on_nothing (suc n) (m ∷ ns) e = let a = zero-add m in let b = on_nothing n ns (omega arith) in cc
 
 -- a round on top of nothing
-alone : (f : Part → ℕ) (ps : List Part) (gs : List ℕ) → length gs ≡ length ps → zip_with ◌+◌ (map (λ x. 0) gs) (map f ps) ≡ map f ps
-alone f ps gs l = on_nothing gs (map f ps) (length-map ps f ∙ sym l)
+alone : (f : Part → ℕ) (ps : List Part) (n : ℕ) → n ≡ length ps → zip_with ◌+◌ (replicate n 0) (map f ps) ≡ map f ps
+alone f ps n l = on_nothing n (map f ps) (length-map ps f ∙ sym l)
 
-pub size_alone : (ps : List Part) (left : ℕ) (gs : List ℕ) {xs has : List ℕ} → Sizes xs ps → length gs ≡ length xs
-    → Served 0 left xs xs (map (λ x. 0) gs) has → has ≡ round larger part_size left ps
+pub size_alone : (ps : List Part) (left n : ℕ) {xs has : List ℕ} → Sizes xs ps → n ≡ length xs
+    → Served 0 left xs xs (replicate n 0) has → has ≡ round larger part_size left ps
 unfolding round
-size_alone ps left gs c l s =
-    size_round part_size ps left c c.same (length-map gs (λ x. 0) ∙ l) s ∙ alone _ ps gs (l ∙ ap length c.same ∙ length-map ps part_size)
+size_alone ps left n c l s =
+    size_round part_size ps left c c.same (length-replicate n 0 ∙ l) s ∙ alone _ ps n (l ∙ ap length c.same ∙ length-map ps part_size)
 
 -- keys turned over
 turned : (top a b : ℕ) → a ≤ top → b ≤ top → ltb (top - b) (top - a) ≡ ltb a b
@@ -140,17 +140,17 @@ turned_fits top (m ∷ ms) most h f e (suc i) l =
     rw e (turned_fits top ms (λ j. most (suc j)) (λ j. h (suc j)) (λ j. f (suc j)) refl i (omega arith))
 
 -- a round, the smallest minimum first
-pub minimum_alone : (top k : ℕ) (ps : List Part) (left : ℕ) (gs : List ℕ) {xs ms has : List ℕ} → Group (InTurn Minimum) xs ms k ps
-    → ((i : ℕ) → get_or ms i 0 ≤ top) → length gs ≡ length xs → Served top left (map (λ x. top - x) ms) xs (map (λ x. 0) gs) has
+pub minimum_alone : (top k : ℕ) (ps : List Part) (left many : ℕ) {xs ms has : List ℕ} → Group (InTurn Minimum) xs ms k ps
+    → ((i : ℕ) → get_or ms i 0 ≤ top) → many ≡ length xs → Served top left (map (λ x. top - x) ms) xs (replicate many 0) has
     → has ≡ round smaller_minimum part_size left ps
-minimum_alone top k ps left gs g h l s =
+minimum_alone top k ps left many g h l s =
     let n = l ∙ ap length g.sized ∙ length-map ps part_size in
     let most = most_every top ps (rw g.asked at h) in
     rw (minimum_closed part_size g.start ps g.rising left)
     (served_parts (λ p. top - p.minimum) part_size top left g.start ps g.rising
-    (every_weaken (λ p (e : p.minimum ≤ top). omega arith) ps most) (length-map gs (λ x. 0) ∙ n)
+    (every_weaken (λ p (e : p.minimum ≤ top). omega arith) ps most) (length-replicate many 0 ∙ n)
     (rw (g.asked, g.sized, map-map (λ x. top - x) part_minimum ps) at s)
-    ∙ alone _ ps gs n
+    ∙ alone _ ps many n
     ∙ map_same ps (λ p i. ap (λ n. taking part_size (left - n) p) (total_same ps (λ q j.
     let a = every_member (λ p. p.minimum ≤ top) ps most p i in
     let b = every_member (λ p. p.minimum ≤ top) ps most q j in

@@ -6,22 +6,21 @@ use mathlib.Core.List.{List, [], ◌∷◌, map}
 use native.Mathlib.Omega.{arith}
 use native.Mathlib.Nat.{zero-mul, one-mul}
 use native.Mathlib.Numerals.{add-one}
-use lib.ListN.{length, get_or, drop, drop_of_length-le, get_or-eq_default}
+use lib.ListN.{length, get_or, drop, replicate, drop_of_length-le, get_or-eq_default}
 use lib.Seq.{drop-cons}
-use borrow.Author.Count.{below_more}
 use lib.Dec.{ltb}
 use borrow.Author.Tests.{ltb-true, ltb-false}
+use Rattle.std.specs.Int.{from_bool}
+use Rattle.std.specs.Option.{MatchOption, unwrap_or}
+use Rattle.std.proofs.Common.{Option, Some, None}
 use Rattle.units.specs.Lists.{or_zero, zip_with}
 use Rattle.units.proofs.Tests.{pick_least}
 use Rattle.dividing.specs.Columns.{in_order}
 
 -- a number or nothing, by a product
-pub picked : (b : Bool) (w : ℕ) {n : ℕ} → n ≡ or_zero b 1 → n * w ≡ or_zero b w
+pub picked : (b : Bool) (w : ℕ) {n : ℕ} → n ≡ from_bool b → n * w ≡ or_zero b w
 picked true w e = rw e (one-mul w)
 picked false w e = rw e (zero-mul w)
-
-pub picked_least : (b : Bool) (w : ℕ) {n : ℕ} → n ≡ or_zero b 1 → n * w ≤ w
-picked_least b w e = omega (arith, picked b w e, pick_least b w)
 
 pub never : {k : ℕ} → k < 0 → ⊥
 never h = omega arith
@@ -29,9 +28,6 @@ never h = omega arith
 -- a column made from another, one place more
 pub map_more : (f : ℕ → ℕ) (xs : List ℕ) (j : ℕ) → j < length xs → map f (drop j xs) ≡ f (get_or xs j 0) ∷ map f (drop (j + 1) xs)
 map_more f xs j h = rw (add-one, drop-cons xs j 0)
-
-pub map_done : (f : ℕ → ℕ) (xs : List ℕ) (j : ℕ) → length xs ≤ j → map f (drop j xs) ≡ []
-map_done f xs j h = rw (drop_of_length-le xs h)
 
 -- one made from two
 pub zip_more : (f : ℕ → ℕ → ℕ) (xs ys : List ℕ) (j : ℕ) → j < length xs → j < length ys
@@ -57,11 +53,7 @@ pub added_more : (gs : List ℕ) (j : ℕ) → j < length gs → {n : ℕ} {ns m
     → zip_with ◌+◌ (drop j gs) ns ≡ (get_or gs j 0 + n) ∷ zip_with ◌+◌ (drop (j + 1) gs) ms
 added_more gs j h e = rw (add-one, drop-cons gs j 0, e)
 
--- a bound of all places passed, one place more
-pub bound_more : (xs : List ℕ) (j top next : ℕ) → ((k : ℕ) → k < j → get_or xs k 0 ≤ top) → top ≤ next → get_or xs j 0 ≤ next
-    → (k : ℕ) → k < j + 1 → get_or xs k 0 ≤ next
-bound_more xs j top next h a b = below_more (λ (k : ℕ). get_or xs k 0 ≤ next) j (λ k l. omega (arith, h k l)) b
-
+-- a bound of all places
 pub bound_done : (xs : List ℕ) (j top : ℕ) → ((k : ℕ) → k < j → get_or xs k 0 ≤ top) → length xs ≤ j → (i : ℕ) → get_or xs i 0 ≤ top
 bound_done xs j top h l i = go (ltb i j) refl
   where
@@ -69,11 +61,17 @@ bound_done xs j top h l i = go (ltb i j) refl
     go true e = h i (ltb-true i j e)
     go false e = let k = ltb-false i j e in omega (arith, get_or-eq_default xs 0 {n = i} (omega arith))
 
+-- a largest number, or 0 where there is none
+pub largest_done : (xs : List ℕ) (r : Option ℕ) → MatchOption r (length xs ≡ 0) (λ m. (k : ℕ) → k < length xs → get_or xs k 0 ≤ m)
+    → (i : ℕ) → get_or xs i 0 ≤ unwrap_or r 0
+largest_done xs None h i = omega (arith, get_or-eq_default xs 0 {n = i} (omega arith))
+largest_done xs (Some m) h i = bound_done xs (length xs) m h (omega arith) i
+
 -- in a column of nothing there is nothing
-pub nothing_at : (gs : List ℕ) (i : ℕ) → get_or (map {B = ℕ} (λ x. 0) gs) i 0 ≡ 0
-nothing_at [] i = refl
-nothing_at (g ∷ gs) zero = refl
-nothing_at (g ∷ gs) (suc i) = nothing_at gs i
+pub nothing_at : (n i : ℕ) → get_or {A = ℕ} (replicate n 0) i 0 ≡ 0
+nothing_at zero i = refl
+nothing_at (suc n) zero = refl
+nothing_at (suc n) (suc i) = nothing_at n i
 
 -- a number of a column made from two
 pub zip_at : (f : ℕ → ℕ → ℕ) (xs ys : List ℕ) (i : ℕ) → i < length xs → i < length ys → get_or (zip_with f xs ys) i 0 ≡ f (get_or xs i 0) (get_or ys i 0)

@@ -11,10 +11,18 @@ use sharing::{Method, Rank};
 use units::Shares;
 
 mod lots;
-mod place;
+mod round;
 mod setter;
-mod threshold;
 mod turns;
+
+// What is divided: the shares left, no more than the group's total, by this lot. What holds of them beside the lent columns, of which a
+// ghost field can't speak, is `Division`.
+#[derive(Clone, Copy)]
+pub struct Amounts {
+    pub total: Shares,
+    pub left: Shares,
+    pub lot: Shares,
+}
 
 // What each order gets of the shares left by the group's method. The price setter is the one at the place setter, if one stands there.
 pub fn divide(
@@ -22,23 +30,21 @@ pub fn divide(
     sizes: &mut [u32],
     minimums: &mut [u32],
     setter: usize,
-    total: Shares,
-    left: Shares,
-    lot: Shares,
+    amounts: Amounts,
     gets: &mut [u32],
 )
-    requires { Division sizes.old minimums.old gets.old total.0 left.0 lot.0
+    requires { Division sizes.old minimums.old gets.old amounts.total.0 amounts.left.0 amounts.lot.0
         × Within method minimums.old sizes.old }
     ensures { (ps : List Part) → Group method sizes.old minimums.old setter ps
-        → gets.new ≡ allot_by method lot.0 left.0 ps }
+        → gets.new ≡ allot_by method amounts.lot.0 amounts.left.0 ps }
 {
     match method {
         Method::InTurn(rank) => match rank {
-            Rank::Time => turns::by_time(minimums, sizes, left, gets),
-            Rank::Size => turns::by_size(sizes, left, gets),
-            Rank::Minimum => turns::by_minimum(minimums, sizes, left, gets),
+            Rank::Time => turns::by_time(minimums, sizes, amounts.left, gets),
+            Rank::Size => turns::by_size(sizes, amounts.left, gets),
+            Rank::Minimum => turns::by_minimum(minimums, sizes, amounts.left, gets),
         },
-        Method::Lots => lots::lot_sharing(sizes, left, total, lot, minimums, gets),
-        Method::Setter => setter::setter_sharing(sizes, setter, left, total, lot, minimums, gets),
+        Method::Lots => lots::lot_sharing(sizes, amounts, minimums, gets),
+        Method::Setter => setter::setter_sharing(sizes, setter, amounts, minimums, gets),
     }
 }

@@ -8,8 +8,7 @@ ghost use Rattle.sharing.specs.Round.{round};
 ghost use Rattle.dividing.specs.Columns.{Sizes};
 ghost use Rattle.dividing.specs.Group.{Group};
 
-use crate::place::taking;
-use crate::threshold::{go_round, largest};
+use crate::round::{Round, largest, taking};
 use units::Shares;
 
 // In turn by time: each is passed over while its minimum exceeds what remains.
@@ -19,22 +18,10 @@ pub(crate) fn by_time(minimums: &[u32], sizes: &[u32], left: Shares, gets: &mut 
         → gets.new ≡ round by_time part_size left.0 ps }
 {
     let mut remains = left;
-    let mut j = 0;
-    while j < sizes.len() {
-        let part = taking(Shares(minimums[j]), Shares(sizes[j]), remains);
+    for (j, &size) in sizes.iter().enumerate() {
+        let part = taking(Shares(minimums[j]), Shares(size), remains);
         gets[j] = part.0;
         remains = units::difference(remains, part);
-        j += 1;
-    }
-}
-
-fn clear(gets: &mut [u32])
-    ensures { gets.new ≡ map (λ x. 0) gets.old }
-{
-    let mut j = 0;
-    while j < gets.len() {
-        gets[j] = 0;
-        j += 1;
     }
 }
 
@@ -43,8 +30,12 @@ pub(crate) fn by_size(sizes: &[u32], left: Shares, gets: &mut [u32])
     requires { (length gets.old ≡ length sizes.now) × (sum sizes.now < 2 ^ 32) }
     ensures { (ps : List Part) → Sizes sizes.now ps → gets.new ≡ round larger part_size left.0 ps }
 {
-    clear(gets);
-    go_round(sizes, sizes, Shares(0), left, gets);
+    gets.fill(0);
+    let round = Round {
+        keys: sizes,
+        wants: sizes,
+    };
+    round.serve(Shares(0), left, gets);
 }
 
 // The smallest number becomes the largest.
@@ -52,10 +43,8 @@ fn turn_over(column: &mut [u32], top: u32)
     requires { (i : ℕ) → get_or column.old i 0 ≤ top }
     ensures { column.new ≡ map (λ x. top - x) column.old }
 {
-    let mut j = 0;
-    while j < column.len() {
-        column[j] = top - column[j];
-        j += 1;
+    for x in column.iter_mut() {
+        *x = top - *x;
     }
 }
 
@@ -70,6 +59,10 @@ pub(crate) fn by_minimum(minimums: &mut [u32], sizes: &[u32], left: Shares, gets
 {
     let top = largest(minimums);
     turn_over(minimums, top);
-    clear(gets);
-    go_round(minimums, sizes, Shares(top), left, gets);
+    gets.fill(0);
+    let round = Round {
+        keys: minimums,
+        wants: sizes,
+    };
+    round.serve(Shares(top), left, gets);
 }

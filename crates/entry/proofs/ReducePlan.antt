@@ -7,6 +7,7 @@ use native.Mathlib.Omega.{arith}
 use lib.ListN.{length, take, drop}
 use lib.Dec.{ltb}
 use borrow.Author.Tests.{lt-ltb, le-ltb, ne_eqb, eqb-true, eqb-false, not-false}
+use Rattle.std.specs.Prelude.{Result, Ok, Err}
 use Rattle.units.specs.Lists.{any, filter, cons_if}
 use Rattle.units.proofs.Tests.{and_true, false_and, or_false}
 use Rattle.units.proofs.Members.{Every}
@@ -17,11 +18,9 @@ use Rattle.record.specs.Record.{encode_order, decode_order}
 use Rattle.record.proofs.Orders.{OrderSound}
 use Rattle.record.proofs.Settling.{sound_rests}
 use Rattle.book.specs.Sound.{form, sound, orders_of, book_of, capacity_of}
-use Rattle.book.specs.declared.Occupancy.{Occupancy}
 use Rattle.book.specs.declared.Found.{Found}
 use Rattle.book.specs.Change.{without_record}
 use Rattle.book.specs.Refusal.{refuse, first_refusal, refusal_of, is_accepted}
-use Rattle.book.specs.Occupancy.{occupancy_of}
 use Rattle.book.specs.Lookup.{is_named, is_unknown, find_call, found_part}
 use Rattle.book.proofs.Soundness.{orders_sound}
 use Rattle.book.proofs.Refusing.{book_accepted}
@@ -29,7 +28,7 @@ use Rattle.book.proofs.Placing.{Placed, any_placed, find_accepted, find_placed, 
 use Rattle.book.proofs.Writing.{write_at, remove_at}
 use Rattle.book.proofs.Committing.{Refuses, Writes, Removes, refuses, refuses_range, refuses_book}
 use Rattle.entry.specs.declared.reduction.Reduction.{Reduction}
-use Rattle.entry.specs.declared.reduction.Reduction.TheVariants.{Refused, Kept, Gone}
+use Rattle.entry.specs.declared.reduction.Reduction.TheVariants.{Kept, Gone}
 use Rattle.entry.specs.Reduce.{asks_too_much, reduce_refusals, reduced_if, reduced, reduce_call}
 use Rattle.entry.specs.Plan.{reduced_order, outcome_of, reduce_plan}
 use Rattle.entry.proofs.Reducing.{reduce_accepted}
@@ -88,8 +87,7 @@ module _ (k n shares : ℕ) (s : List ℕ) where
       refuses_range (security_in_range k && number_in_range n && shares_in_range shares) (reduce_refusals k n shares (orders_of s)).of_book s
       (book_of (capacity_of s) (reduced k n shares (orders_of s)))
 
-  pub reduce_unsound : (security_in_range k && number_in_range n && shares_in_range shares) ≡ true → (c : Occupancy) → c ≡ occupancy_of s → (c.refusal ≡ 0 → ⊥)
-      → Refuses (reduce_call k n shares s) s c.refusal
+  pub reduce_unsound : (security_in_range k && number_in_range n && shares_in_range shares) ≡ true → sound s ≡ false → Refuses (reduce_call k n shares s) s 2
   unfolding reduce_call
   reduce_unsound =
       refuses_book (security_in_range k && number_in_range n && shares_in_range shares) (reduce_refusals k n shares (orders_of s)).of_book s
@@ -104,7 +102,7 @@ module _ (k n shares : ℕ) (s : List ℕ) (h : (security_in_range k && number_i
       as_find (security_in_range k && number_in_range n) (shares_in_range shares) (sound s) (is_unknown k n os) (any (asks_too_much k n shares) os) h f
 
   -- a find that is refused
-  reduce_not_found : ((find_call k n s).refusal ≡ 0 → ⊥) → reduce_plan k n shares s ≡ Refused (find_call k n s).refusal
+  reduce_not_found : ((find_call k n s).refusal ≡ 0 → ⊥) → reduce_plan k n shares s ≡ Err (find_call k n s).refusal
   unfolding reduce_plan
   reduce_not_found f = rw (not_found f, ne_eqb (find_call k n s).refusal 0 f)
 
@@ -122,20 +120,20 @@ module _ (k n shares : ℕ) (s : List ℕ) (h : (security_in_range k && number_i
         rw (h, a.book, a.of_book.0, t, p.named, same)
 
     -- more shares than the order has
-    reduce_too_much : all_shares (interest_of o) < shares → reduce_plan k n shares s ≡ Refused 7
+    reduce_too_much : all_shares (interest_of o) < shares → reduce_plan k n shares s ≡ Err 7
     unfolding reduce_plan
     reduce_too_much l = rw (refusal, lt-ltb (all_shares (interest_of o)) shares l)
 
     -- the order stays or leaves
-    reduce_done : shares ≤ all_shares (interest_of o) → reduce_plan k n shares s ≡ outcome_of (find_call k n s).start (reduced_order shares o)
+    reduce_done : shares ≤ all_shares (interest_of o) → reduce_plan k n shares s ≡ Ok (outcome_of (find_call k n s).start (reduced_order shares o))
     unfolding reduce_plan
     reduce_done l = rw (refusal, le-ltb (all_shares (interest_of o)) shares l, same_found)
 
 -- The plan by what the code has computed: find's answer, the order that is read there, and that order reduced.
 module _ (k n shares : ℕ) (s : List ℕ) (h : (security_in_range k && number_in_range n && shares_in_range shares) ≡ true) (f : Found) (q : f ≡ find_call k n s) where
   -- a find that is refused
-  pub find_refused : (f.refusal ≡ 0 → ⊥) → Refused f.refusal ≡ reduce_plan k n shares s
-  find_refused e = ap (λ x. Refused x.refusal) q ∙ sym (reduce_not_found k n shares s h (λ z. e (ap (λ x. x.refusal) q ∙ z)))
+  pub find_refused : (f.refusal ≡ 0 → ⊥) → Err f.refusal ≡ reduce_plan k n shares s
+  find_refused e = ap (λ x. Err x.refusal) q ∙ sym (reduce_not_found k n shares s h (λ z. e (ap (λ x. x.refusal) q ∙ z)))
 
   module _ (e : f.refusal ≡ 0) where
     accepts : (find_call k n s).refusal ≡ 0
@@ -150,41 +148,41 @@ module _ (k n shares : ℕ) (s : List ℕ) (h : (security_in_range k && number_i
       its = r ∙ ap (λ x. decode_order form (take 40 (drop x.start s))) q
 
       -- more shares than the order has
-      pub too_much_refused : all_shares (interest_of o) < shares → Refused 7 ≡ reduce_plan k n shares s
+      pub too_much_refused : all_shares (interest_of o) < shares → Err 7 ≡ reduce_plan k n shares s
       too_much_refused l = sym (reduce_too_much k n shares s h accepts o its l)
 
       -- the order stays or leaves
-      pub order_reduced : shares ≤ all_shares (interest_of o) → (left : Order) → left ≡ reduced_order shares o → outcome_of f.start left ≡ reduce_plan k n shares s
+      pub order_reduced : shares ≤ all_shares (interest_of o) → (left : Order) → left ≡ reduced_order shares o → Ok (outcome_of f.start left) ≡ reduce_plan k n shares s
       order_reduced l left m = rw (m, q) (sym (reduce_done k n shares s h accepts o its l))
 
 -- A plan by its refusal number, the place of the order's record, and the order as it is left.
 module _ (c place : ℕ) (left : Order) where
-  abbrev plan : Bool → Bool → Reduction
-  plan b r = cond b (cond r (Kept place left) (Gone place)) (Refused c)
+  abbrev plan : Bool → Bool → Result Reduction ℕ
+  plan b r = cond b (Ok (cond r (Kept place left) (Gone place))) (Err c)
 
   -- a plan that refuses
-  refused : (r : ℕ) → Refused r ≡ plan (is_accepted c) (is_resting left) → (r ≡ c) × (c ≡ 0 → ⊥)
+  refused : (r : ℕ) → Err r ≡ plan (is_accepted c) (is_resting left) → (r ≡ c) × (c ≡ 0 → ⊥)
   refused r e = go (is_accepted c) (is_resting left) refl e
     where
-      go : (b t : Bool) → is_accepted c ≡ b → Refused r ≡ plan b t → (r ≡ c) × (c ≡ 0 → ⊥)
+      go : (b t : Bool) → is_accepted c ≡ b → Err r ≡ plan b t → (r ≡ c) × (c ≡ 0 → ⊥)
       go true true f e = absurd (false≢true (cc))
       go true false f e = absurd (false≢true (cc))
       go false t f e = ((cc), eqb-false c 0 f)
 
   -- a plan that keeps the order
-  keeps : (at : ℕ) (o : Order) → Kept at o ≡ plan (is_accepted c) (is_resting left) → (c ≡ 0) × (at ≡ place) × (o ≡ left) × (is_resting left ≡ true)
+  keeps : (at : ℕ) (o : Order) → Ok (Kept at o) ≡ plan (is_accepted c) (is_resting left) → (c ≡ 0) × (at ≡ place) × (o ≡ left) × (is_resting left ≡ true)
   keeps at o e = go (is_accepted c) (is_resting left) refl refl e
     where
-      go : (b t : Bool) → is_accepted c ≡ b → is_resting left ≡ t → Kept at o ≡ plan b t → (c ≡ 0) × (at ≡ place) × (o ≡ left) × (is_resting left ≡ true)
+      go : (b t : Bool) → is_accepted c ≡ b → is_resting left ≡ t → Ok (Kept at o) ≡ plan b t → (c ≡ 0) × (at ≡ place) × (o ≡ left) × (is_resting left ≡ true)
       go true true f g e = (eqb-true c 0 f, (cc), (cc), g)
       go true false f g e = absurd (false≢true (cc))
       go false t f g e = absurd (false≢true (cc))
 
   -- a plan in which it leaves
-  leaves : (at : ℕ) → Gone at ≡ plan (is_accepted c) (is_resting left) → (c ≡ 0) × (at ≡ place) × (is_resting left ≡ false)
+  leaves : (at : ℕ) → Ok (Gone at) ≡ plan (is_accepted c) (is_resting left) → (c ≡ 0) × (at ≡ place) × (is_resting left ≡ false)
   leaves at e = go (is_accepted c) (is_resting left) refl refl e
     where
-      go : (b t : Bool) → is_accepted c ≡ b → is_resting left ≡ t → Gone at ≡ plan b t → (c ≡ 0) × (at ≡ place) × (is_resting left ≡ false)
+      go : (b t : Bool) → is_accepted c ≡ b → is_resting left ≡ t → Ok (Gone at) ≡ plan b t → (c ≡ 0) × (at ≡ place) × (is_resting left ≡ false)
       go true true f g e = absurd (false≢true (cc))
       go true false f g e = (eqb-true c 0 f, (cc), g)
       go false t f g e = absurd (false≢true (cc))
@@ -248,7 +246,7 @@ module _ (k n shares : ℕ) (s : List ℕ) where
         }
 
   -- a reduce that is refused
-  pub plan_refused : (r : ℕ) → Refused r ≡ reduce_plan k n shares s → Refuses (reduce_call k n shares s) s r
+  pub plan_refused : (r : ℕ) → Err r ≡ reduce_plan k n shares s → Refuses (reduce_call k n shares s) s r
   unfolding reduce_plan reduce_call
   plan_refused r e =
       let c = refusal_of (reduce_refusals k n shares (orders_of s)) (sound s) in
@@ -256,14 +254,14 @@ module _ (k n shares : ℕ) (s : List ℕ) where
       rw h.0 (refuses c s (book_of (capacity_of s) (reduced k n shares (orders_of s))) h.1)
 
   -- a reduce that leaves the order with shares
-  pub plan_kept : (at : ℕ) (o : Order) → Kept at o ≡ reduce_plan k n shares s → Writes (reduce_call k n shares s) s at o
+  pub plan_kept : (at : ℕ) (o : Order) → Ok (Kept at o) ≡ reduce_plan k n shares s → Writes (reduce_call k n shares s) s at o
   unfolding reduce_plan
   plan_kept at o e =
       let h = keeps (reduce_call k n shares s).refusal (find_call k n s).start left at o e in
       rw (h.1, h.2) (written h.0 h.3)
 
   -- a reduce that leaves it without
-  pub plan_gone : (at : ℕ) → Gone at ≡ reduce_plan k n shares s → Removes (reduce_call k n shares s) s at
+  pub plan_gone : (at : ℕ) → Ok (Gone at) ≡ reduce_plan k n shares s → Removes (reduce_call k n shares s) s at
   unfolding reduce_plan
   plan_gone at e =
       let h = leaves (reduce_call k n shares s).refusal (find_call k n s).start left at e in

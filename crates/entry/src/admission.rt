@@ -4,13 +4,16 @@ ghost use Rattle.orders.specs.Order.{interest_of, all_shares};
 ghost use Rattle.record.specs.Record.{order_of};
 ghost use Rattle.record.specs.Names.{named_numbers};
 ghost use Rattle.book.specs.Sound.{sound, orders_of, first_orders};
+ghost use Rattle.book.specs.Answer.{numbered};
 ghost use Rattle.entry.specs.Add.{request_in_range, requested, beats, could_trade};
 ghost use Rattle.entry.specs.Plan.{standing_of, add_plan};
 
 use book::records;
 use book::records::RECORD_BYTES;
+use book::refusal::Refusal;
 use orders::order::{Kind, Order, Side};
 use orders::{range, trading};
+use record::order_record;
 use record::order_record::Numbers;
 use units::{Price, Shares};
 
@@ -27,13 +30,6 @@ pub struct AddRequest {
     pub hidden: u32,
     pub refresh: u32,
     pub security: u32,
-}
-
-// A refusal, or the order that comes in and where its record goes.
-#[derive(Clone, Copy)]
-pub enum Admission {
-    Refused(u32),
-    Admitted(usize, Order),
 }
 
 // How a new order stands to those of the book: whether its number is not above all of theirs, whether it could trade with one of them,
@@ -65,7 +61,7 @@ fn requested(q: AddRequest, setter: bool) -> Order
     ensures { result ≡ requested q setter }
 {
     Order {
-        side: Side::of(q.side),
+        side: Side::from(q.side),
         kind: Kind::of(q.kind, q.minimum, q.hidden, q.refresh),
         number: q.number,
         price: Price(q.price),
@@ -90,7 +86,7 @@ fn could_trade(new: Order, shares: Shares, resting: Numbers) -> bool
     let side = new.side;
     let limit = new.price;
     (resting.security == new.security)
-        & trading::is_opposite(side, Side::of(resting.side))
+        & trading::is_opposite(side, Side::from(resting.side))
         & trading::within_limit(side, limit, Price(resting.price))
         & (!(resting.kind == 3) | (resting.minimum <= shares.0))
 }
@@ -103,7 +99,7 @@ fn beats(new: Order, resting: Numbers) -> bool
     let side = new.side;
     let price = new.price;
     !(resting.security == new.security)
-        | trading::is_opposite(side, Side::of(resting.side))
+        | trading::is_opposite(side, Side::from(resting.side))
         | !Kind::is_displayed(resting.kind)
         | trading::is_priced_better(side, price, Price(resting.price))
 }
@@ -116,15 +112,11 @@ fn standing_in(book: &[u8], n: usize, new: Order, shares: Shares) -> Standing
     let mut stale = false;
     let mut trades = false;
     let mut best = true;
-    let mut at = 0;
-    let mut left = n;
-    while 0 < left {
-        let resting = records::numbers_at(book, at);
+    for rec in records::first(book, n) {
+        let resting = order_record::numbers_of(rec);
         stale = stale | is_later(new, resting);
         trades = trades | could_trade(new, shares, resting);
         best = best & beats(new, resting);
-        at += RECORD_BYTES;
-        left -= 1;
     }
     Standing {
         stale,
@@ -133,28 +125,29 @@ fn standing_in(book: &[u8], n: usize, new: Order, shares: Shares) -> Standing
     }
 }
 
-// The refusal of an add that is checked, or the order to be put last and where. Checked: the numbers are in range, and the book is sound and n
-// of its records are in use.
-pub fn decide(book: &[u8], n: usize, request: AddRequest) -> Admission
+// The order to be put last and where its record goes, of an add that is checked: the numbers are in range, and the book is sound and n of its
+// records are in use.
+pub fn decide(book: &[u8], n: usize, request: AddRequest) -> Result<(usize, Order), Refusal>
     requires { (request_in_range request ≡ true) × (sound book.now ≡ true) × (n ≡ length (orders_of book.now)) }
-    ensures { result ≡ add_plan request book.now }
+    ensures { numbered result ≡ add_plan request book.now }
 {
     let new = requested(request, false);
     let shares = request.size + request.hidden;
-    let found = standing_in(book, n, new, Shares(shares));
-    let stale = found.stale;
-    let trades = found.trades;
+    let Standing {
+        stale,
+        trades,
+        beats,
+    } = standing_in(book, n, new, Shares(shares));
     if stale {
-        return Admission::Refused(4);
+        return Err(Refusal::StaleNumber);
     }
     if trades {
-        return Admission::Refused(5);
+        return Err(Refusal::CouldTrade);
     }
     if book.len() / RECORD_BYTES <= n {
-        return Admission::Refused(6);
+        return Err(Refusal::BookFull);
     }
     let lot = units::round_lot();
-    let shown = new.displayed();
-    let setter = Kind::is_displayed(request.kind) & (lot.0 <= shown.0) & found.beats;
-    Admission::Admitted(RECORD_BYTES * n, requested(request, setter))
+    let setter = Kind::is_displayed(request.kind) & (lot <= new.displayed()) & beats;
+    Ok((RECORD_BYTES * n, requested(request, setter)))
 }

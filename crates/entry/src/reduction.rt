@@ -2,18 +2,19 @@
 ghost use Rattle.std.specs.Prelude.{◌≡◌, true, ◌&&◌, length};
 ghost use Rattle.orders.specs.Order.{interest_of, settled, number_in_range, shares_in_range, security_in_range};
 ghost use Rattle.book.specs.Sound.{sound, orders_of};
+ghost use Rattle.book.specs.Answer.{numbered};
 ghost use Rattle.entry.specs.Reduce.{reduction};
 ghost use Rattle.entry.specs.Plan.{outcome_of, reduce_plan};
 
 use book::records;
+use book::refusal::Refusal;
 use orders::order::Order;
 use orders::range;
 use units::Shares;
 
-// A refusal; the order that is left, with the place of its record; or the place of the record of an order that leaves.
+// The order that is left, with the place of its record; or the place of the record of an order that leaves.
 #[derive(Clone, Copy)]
 pub enum Reduction {
-    Refused(u32),
     Kept(usize, Order),
     Gone(usize),
 }
@@ -47,22 +48,23 @@ fn outcome(start: usize, left: Order) -> Reduction
     }
 }
 
-// The refusal of a reduce that is checked, or what becomes of the security's order of this number. Checked: the numbers are in range, and
-// the book is sound and n of its records are in use.
+// What becomes of the security's order of this number, by a reduce that is checked: the numbers are in range, and the book is sound and n of its
+// records are in use.
 #[tactic(auto, using(crate::proofs::ReducePlan::too_much_refused))]
-pub fn decide(book: &[u8], n: usize, security: u32, number: u32, shares: u32) -> Reduction
+pub fn decide(
+    book: &[u8],
+    n: usize,
+    security: u32,
+    number: u32,
+    shares: u32,
+) -> Result<Reduction, Refusal>
     requires { ((security_in_range security && number_in_range number && shares_in_range shares) ≡ true) × (sound book.now ≡ true) × (n ≡ length (orders_of book.now)) }
-    ensures { result ≡ reduce_plan security number shares book.now }
+    ensures { numbered result ≡ reduce_plan security number shares book.now }
 {
-    let found = lookup::locate_checked(book, n, security, number);
-    let refusal = found.refusal;
-    if refusal != 0 {
-        return Reduction::Refused(refusal);
-    }
-    let start = found.start;
+    let start = lookup::locate_checked(book, n, security, number)?;
     let order = records::order_at(book, start);
     if !order.has(Shares(shares)) {
-        return Reduction::Refused(7);
+        return Err(Refusal::TooManyShares);
     }
-    outcome(start, reduced(order, Shares(shares)))
+    Ok(outcome(start, reduced(order, Shares(shares))))
 }

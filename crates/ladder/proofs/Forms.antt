@@ -11,9 +11,8 @@ use Rattle.units.proofs.Facts.{same_numbers_lem}
 use Rattle.book.specs.Sound.{sound}
 use Rattle.book.specs.Lookup.{orders_for}
 use Rattle.book.specs.Refusal.{Refusal, refuse, first_refusal, Refusals, refusal_of, Changed}
-use Rattle.ladder.specs.declared.Seen.{Seen}
 use Rattle.ladder.specs.Ladder.{ladder_bytes, made_of, is_other_length, is_other_ladder, with_ladder, kept_ladder, Kept, keeping}
-use Rattle.ladder.specs.Seen.{seen_of}
+use Rattle.ladder.specs.Seen.{Look, seen_of}
 use Rattle.ladder.proofs.Security.{security_few}
 use Rattle.ladder.proofs.Making.{ladder_long}
 use Rattle.ladder.proofs.Keeping.{form_refused, form_plain}
@@ -39,6 +38,10 @@ none_given (x ∷ xs) ys u y z e = go x.holds e (none_given xs ys u y z)
         → cond b x.number (first_refusal (xs ++ (refuse 2 u ∷ ys))) ≡ 0
     go true e i = e
     go false e i = i e
+
+-- a refused call leaves the ladder as it was
+pub kept_refused : (j r : ℕ) (b l : List ℕ) → (r ≡ 0 → ⊥) → l ≡ kept_ladder j r b l
+kept_refused j r b l n = rw (ne_eqb r 0 n)
 
 module _ (j : ℕ) (rs : Refusals) (s l : List ℕ) where
   -- a form that is accepted is so as the plain call
@@ -136,7 +139,7 @@ module _ (j : ℕ) {s : List ℕ} (plain : Plain s) (l : List ℕ) where
   pub form_range : plain.in_range ≡ false → Gets 1 s l
   form_range e = gets_refused (rw e) (λ z. omega arith)
 
-  module _ (e : plain.in_range ≡ true) (c : Seen) (k : c ≡ seen_of j s l) where
+  module _ (e : plain.in_range ≡ true) (c : Look) (k : c ≡ seen_of j s l) where
     -- book and ladder seen and refused,
     pub form_seen : (c.refusal ≡ 0 → ⊥) → Gets c.refusal s l
     form_seen n = gets_refused (sym (form_refused j s l c k plain.of_book e n)) n

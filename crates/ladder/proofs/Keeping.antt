@@ -11,10 +11,9 @@ use Rattle.units.proofs.Facts.{numbers_same}
 use Rattle.book.specs.Sound.{sound, orders_of}
 use Rattle.book.specs.Lookup.{orders_for}
 use Rattle.book.specs.Refusal.{Refusal, refuse, first_refusal, Refusals, refusal_of}
-use Rattle.ladder.specs.declared.Seen.{Seen}
 use Rattle.ladder.specs.Rows.{rows_of}
 use Rattle.ladder.specs.Ladder.{ladder_bytes, made_of, is_other_length, is_other_ladder, with_ladder}
-use Rattle.ladder.specs.Seen.{seen_of}
+use Rattle.ladder.specs.Seen.{Look, seen_of}
 use Rattle.ladder.proofs.Security.{security_few}
 use Rattle.ladder.proofs.Making.{rows_few, ladder_long, ladder_behind}
 
@@ -68,7 +67,7 @@ module _ (x y z : Bool) (rest : ℕ) where
       go false false false e = absurd (e refl)
 
 -- What was seen says.
-module _ (j : ℕ) (s l : List ℕ) (c : Seen) (k : c ≡ seen_of j s l) where
+module _ (j : ℕ) (s l : List ℕ) (c : Look) (k : c ≡ seen_of j s l) where
   refusal_is : c.refusal ≡ three (not (sound s)) (is_other_length l) (is_other_ladder j s l) 0 0
   unfolding seen_of three
   refusal_is = ap (λ x. x.refusal) k

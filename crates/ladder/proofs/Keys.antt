@@ -1,12 +1,13 @@
 -- The keys of a security's orders in a book, put in order: their orders' rows are in the ladder's order, and come to the rows of these orders.
 use Prim.Native.Nat.{ℕ, zero, suc, ◌+◌, ◌≤◌, ◌<◌}
-use mathlib.Core.Path.{◌≡◌, sym, ap, ap₂, ◌∙◌}
+use mathlib.Core.Path.{◌≡◌, refl, sym, ap, ap₂, ◌∙◌}
 use mathlib.Core.Bool.{Bool, true, false}
 use mathlib.Core.List.{List, [], ◌∷◌, map}
 use native.Mathlib.Omega.{arith}
 use native.Mathlib.Numerals.{add-one}
 use lib.ListN.{length, drop, drop_of_length-le}
-use Rattle.units.specs.Lists.{cons_if, filter}
+use mir.Val.{bool_byte}
+use Rattle.units.specs.Lists.{cons_if, filter, or_zero}
 use Rattle.units.proofs.Members.{Every}
 use Rattle.ordering.specs.Sorted.{sorted, Rising}
 use Rattle.ordering.proofs.Order.{sorted_rising, sorted_perm, sorted_every}
@@ -27,6 +28,11 @@ use Rattle.ladder.specs.Key.{rank_of, key_of, rank_in, place_in, keys_from}
 use Rattle.ladder.proofs.Ranks.{Priced, rank}
 use Rattle.ladder.proofs.Inserting.{gathered_same}
 use Rattle.ladder.proofs.Stretches.{InRank, along_gathered}
+
+-- a test as a number
+pub counted : (b : Bool) → bool_byte b ≡ or_zero b 1
+counted true = refl
+counted false = refl
 
 -- what a key holds can be read back from it
 key_rank : (place : ℕ) (o : Order) → place < 256 → rank_in (key_of place o) ≡ rank_of o.side (price_of o)

@@ -1,12 +1,15 @@
 -- A ladder made: the rows of the keys in order, and zeros behind them.
 use Prim.Native.Nat.{ℕ, zero, suc, ◌+◌, ◌-◌, ◌*◌, ◌≤◌}
-use mathlib.Core.Path.{◌≡◌, sym, ap, ap₂, ◌∙◌}
-use mathlib.Core.Bool.{true, ◌&&◌}
+use mathlib.Core.Path.{◌≡◌, refl, sym, ap, ap₂, ◌∙◌}
+use mathlib.Core.Bool.{Bool, true, false, ◌&&◌}
 use mathlib.Core.List.{List, ◌∷◌, ◌++◌, map}
 use native.Mathlib.Omega.{arith}
 use lib.ListN.{length, take, drop, replicate, length-append, length-replicate, length-map}
 use native.Mathlib.Nat.{zero-add, suc-add}
 use lib.Seq.{take_at, drop_at, drop-drop, drop-append-add}
+use Rattle.std.proofs.Common.{Some, None}
+use Rattle.std.specs.Bool.{then_some}
+use Rattle.ladder.specs.declared.row.Row.{Row}
 use Rattle.units.specs.Lists.{all, flat_map, is_zero, same_numbers}
 use Rattle.units.proofs.Totals.{length_flat}
 use Rattle.units.proofs.Members.{every_weaken}
@@ -125,3 +128,36 @@ pub held : (os : List Order) → length os ≤ 256 → (l : List ℕ) → length
     → (same_numbers (take (24 * length (rows_of os)) l) (flat_map encode_row (rows_of os)) && all is_zero (drop (24 * length (rows_of os)) l)) ≡ same_numbers l (ladder_of os)
 unfolding ladder_of
 held os most l e = same_all (rows_of os) l (row_bytes * (most_orders - length (rows_of os))) (e ∙ omega (arith, rows_few os))
+
+-- a value is there where a test passed
+pub some_if : (b : Bool) {m n : ℕ} → Some n ≡ then_some b m → (b ≡ true) × (n ≡ m)
+some_if true e = (refl, cc)
+some_if false e = absurd (cc)
+
+pub none_if : (b : Bool) (m : ℕ) → None ≡ then_some b m → b ≡ false
+none_if true m e = absurd (cc)
+none_if false m e = refl
+
+-- The number of the rows, where a ladder has them at its front.
+module _ (os : List Order) (most : length os ≤ 256) (l : List ℕ) (e : length l ≡ ladder_bytes) where
+  abbrev rs : List Row
+  rs = rows_of os
+
+  abbrev begins : Bool
+  begins = same_numbers (take (24 * length rs) l) (flat_map encode_row rs)
+
+  -- where it hasn't, it is not the orders'
+  pub held_not : None ≡ then_some begins (length rs) → None ≡ then_some (same_numbers l (ladder_of os)) (length rs)
+  held_not n =
+      let x : same_numbers l (ladder_of os) ≡ false =
+      sym (held os most l e) ∙ ap (λ b. b && all is_zero (drop (24 * length rs) l)) (none_if begins _ n) in
+      rw x
+
+  -- where it has, it is if it has zeros behind
+  pub held_front : {n : ℕ} → Some n ≡ then_some begins (length rs)
+      → (n ≤ 256) × (then_some (all is_zero (drop (24 * n) l)) n ≡ then_some (same_numbers l (ladder_of os)) (length rs))
+  held_front {n} s =
+      let h = some_if begins s in
+      let x : all is_zero (drop (24 * n) l) ≡ same_numbers l (ladder_of os) =
+      ap (λ m. all is_zero (drop (24 * m) l)) h.1 ∙ sym (ap (λ b. b && all is_zero (drop (24 * length rs) l)) h.0) ∙ held os most l e in
+      (rows_most os most h.1, ap₂ then_some x h.1)

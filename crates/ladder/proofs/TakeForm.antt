@@ -14,9 +14,8 @@ use Rattle.matching.specs.TakeCall.{request_in_range, TakeAnswer, take_refusals,
 use Rattle.matching.specs.Fairness.{FairTake}
 use Rattle.matching.proofs.Taking.{take_sound}
 use Rattle.matching.proofs.TakeFair.{take_fair}
-use Rattle.ladder.specs.declared.Seen.{Seen}
 use Rattle.ladder.specs.Ladder.{made_of, kept_ladder, TakeKept, take_ladder_call}
-use Rattle.ladder.specs.Seen.{seen_of}
+use Rattle.ladder.specs.Seen.{Look, seen_of}
 use Rattle.ladder.proofs.Forms as forms
 
 module _ (q : TakeRequest) (s x l : List ℕ) where
@@ -132,7 +131,7 @@ module _ (q : TakeRequest) (s x l : List ℕ) where
   pub take_range : request_in_range q ≡ false → Answers (record { refusal = 1; count = 0; left = 0 }) s x l
   take_range e = refuses (forms.form_range q.security book_alone l e) (λ z. omega arith)
 
-  module _ (e : request_in_range q ≡ true) (c : Seen) (k : c ≡ seen_of q.security s l) where
+  module _ (e : request_in_range q ≡ true) (c : Look) (k : c ≡ seen_of q.security s l) where
     -- book and ladder are seen, and refused
     pub take_seen : (c.refusal ≡ 0 → ⊥) → Answers (record { refusal = c.refusal; count = 0; left = 0 }) s x l
     take_seen n = refuses (forms.form_seen q.security book_alone l e c k n) n

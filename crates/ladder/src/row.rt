@@ -21,6 +21,7 @@ pub struct Row {
 }
 
 // The row of one order alone.
+#[tactic(auto, using(units::proofs::Facts::shares_are), unfolding(crate::specs::Rows::row_of))]
 pub(crate) fn row_of(order: Order) -> Row
     ensures { result ≡ row_of order }
 {
@@ -41,14 +42,11 @@ pub(crate) fn row_of(order: Order) -> Row
 pub(crate) fn same_level(a: Row, b: Row) -> bool
     ensures { result ≡ same_level a b }
 {
-    let s = a.side;
-    let t = b.side;
-    let p = a.price;
-    let q = b.price;
-    (s.number() == t.number()) & (p.0 == q.0)
+    (a.side == b.side) & (a.price == b.price)
 }
 
 // Two rows of one side and price as one.
+#[tactic(auto, using(units::proofs::Facts::shares_are), unfolding(crate::specs::Rows::joined))]
 pub(crate) fn joined(a: Row, b: Row) -> Row
     requires { (a.displayed.0 + b.displayed.0 < 2 ^ 32)
         × (a.other.0 + b.other.0 < 2 ^ 32)
@@ -69,11 +67,12 @@ pub(crate) fn joined(a: Row, b: Row) -> Row
 }
 
 // The row's 24 bytes.
+#[tactic(auto, using(record::proofs::Rows::side_byte), unfolding(record::specs::Codec::encode))]
 pub(crate) fn bytes_of(row: Row) -> [u8; 24]
     ensures { result ≡ encode_row row }
 {
     let side = row.side;
-    let s = side.number();
+    let s = u8::from(side);
     let p = bytes::u32_bytes(row.price.0);
     let d = bytes::u32_bytes(row.displayed.0);
     let o = bytes::u32_bytes(row.other.0);

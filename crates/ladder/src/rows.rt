@@ -1,5 +1,6 @@
 // The rows of a security's orders in a book: the orders put in the ladder's order, and a row for each stretch of one side and price.
 ghost use Rattle.std.specs.Prelude.{◌≡◌, true, ◌∷◌, ◌++◌, ◌+◌, ◌-◌, ◌*◌, ◌≤◌, ◌<◌, length, take, drop, replicate};
+ghost use Rattle.std.specs.Bool.{then_some};
 ghost use Rattle.units.specs.Lists.{flat_map, same_numbers};
 ghost use Rattle.ordering.specs.Sorted.{sorted};
 ghost use Rattle.record.specs.Codec.{replaced};
@@ -30,7 +31,7 @@ fn rank_of(side: Side, price: Price) -> u32
 {
     let p = price.0;
     match side {
-        Side::Buy => 4_294_967_295 - p,
+        Side::Buy => u32::MAX - p,
         Side::Sell => p,
     }
 }
@@ -51,12 +52,10 @@ fn write_keys(book: &[u8], n: usize, security: u32, keys: &mut [u64]) -> usize
     ensures { (result ≤ n) × (take result keys.new ≡ keys_from security 0 (orders_of book.now)) }
 {
     let mut count = 0;
-    let mut i = 0;
-    while i < n {
+    for i in 0..n {
         let order = records::order_at(book, RECORD_BYTES * i);
         keys[count] = key_of(order, i);
-        count += units::one_if(order.security == security) as usize;
-        i += 1;
+        count += usize::from(order.security == security);
     }
     count
 }
@@ -75,6 +74,7 @@ fn sort_keys(book: &[u8], n: usize, security: u32, keys: &mut [u64], spare: &mut
 }
 
 // The row of a key's order alone.
+#[tactic(auto, using(book::proofs::Checking::sound_fits))]
 fn row_at(book: &[u8], key: u64) -> Row
     requires { (sound book.now ≡ true) × (place_in key < length (orders_of book.now)) }
     ensures { result ≡ row_of (order_at book.now (place_in key)) }
@@ -107,16 +107,17 @@ fn level_at(book: &[u8], keys: &[u64], from: usize) -> Level
         × (along_keys book.now (drop from keys.now) ≡ result.row ∷ along_keys book.now (drop result.end keys.now)) }
 {
     let mut row = row_at(book, keys[from]);
-    let mut i = from + 1;
-    while i < keys.len() {
+    for i in from + 1..keys.len() {
         let next = row_at(book, keys[i]);
         if !row::same_level(row, next) {
             return Level { row, end: i };
         }
         row = row::joined(row, next);
-        i += 1;
     }
-    Level { row, end: i }
+    Level {
+        row,
+        end: keys.len(),
+    }
 }
 
 // The rows of orders whose keys rise go to the front of the ladder. Gives their number.
@@ -127,6 +128,7 @@ fn write_rows(book: &[u8], keys: &[u64], ladder: &mut [u8]) -> usize
 {
     let mut count = 0;
     let mut i = 0;
+    // Stays a while: the index goes from level to level.
     while i < keys.len() {
         let level = level_at(book, keys, i);
         let row = level.row;
@@ -147,22 +149,17 @@ fn has_row(ladder: &[u8], place: usize, row: Row) -> bool
     bytes::same(&ladder[at..at + ROW_BYTES], &bytes)
 }
 
-// How many rows there are, and whether the ladder begins with them.
-#[derive(Clone, Copy)]
-pub(crate) struct Held {
-    pub rows: usize,
-    pub same: bool,
-}
-
-// The rows of orders whose keys rise, held to the front of the ladder.
-fn hold_rows(book: &[u8], keys: &[u64], ladder: &[u8]) -> Held
+// The number of the rows of orders whose keys rise, where the ladder begins with them.
+fn hold_rows(book: &[u8], keys: &[u64], ladder: &[u8]) -> Option<usize>
     requires { Keyed book.now keys.now × (24 * length keys.now ≤ length ladder.now) }
-    ensures { (result.rows ≡ length (along_keys book.now keys.now))
-        × (result.same ≡ same_numbers (take (24 * result.rows) ladder.now) (flat_map encode_row (along_keys book.now keys.now))) }
+    ensures { result ≡ then_some
+        (same_numbers (take (24 * length (along_keys book.now keys.now)) ladder.now) (flat_map encode_row (along_keys book.now keys.now)))
+        (length (along_keys book.now keys.now)) }
 {
     let mut same = true;
     let mut rows = 0;
     let mut i = 0;
+    // Stays a while: the index goes from level to level.
     while i < keys.len() {
         let level = level_at(book, keys, i);
         let row = level.row;
@@ -170,11 +167,7 @@ fn hold_rows(book: &[u8], keys: &[u64], ladder: &[u8]) -> Held
         rows += 1;
         i = level.end;
     }
-    Held { rows, same }
-}
-
-fn no_keys() -> [u64; 256] {
-    [0; 256]
+    same.then_some(rows)
 }
 
 // The ladder of a security in a sound book of n orders takes the place of one that has zeros behind its first rows, so many. There is a key
@@ -200,7 +193,7 @@ fn renew_in(
     }
 }
 
-// Whether the ladder is that of a security in a sound book, to the last byte; and its number of rows. Keys are lent as above.
+// The ladder's number of rows, where it is that of a security in a sound book, to the last byte. Keys are lent as above.
 fn hold_in(
     book: &[u8],
     n: usize,
@@ -208,23 +201,17 @@ fn hold_in(
     keys: &mut [u64],
     spare: &mut [u64],
     ladder: &[u8],
-) -> Held
+) -> Option<usize>
     requires { Lent book.now n keys.old spare.old ladder.now }
-    ensures { (result.rows ≡ length (rows_of (orders_for security book.now)))
-        × (result.same ≡ same_numbers ladder.now (made_of security book.now)) }
+    ensures { result ≡ then_some (same_numbers ladder.now (made_of security book.now)) (length (rows_of (orders_for security book.now))) }
 {
     let orders = sort_keys(book, n, security, keys, spare);
-    let held = hold_rows(book, &keys[..orders], ladder);
-    let rows = held.rows;
-    let begins = held.same;
-    let clear = bytes::zeros(&ladder[ROW_BYTES * rows..]);
-    Held {
-        rows,
-        same: begins & clear,
-    }
+    let rows = hold_rows(book, &keys[..orders], ladder)?;
+    bytes::zeros(&ladder[ROW_BYTES * rows..]).then_some(rows)
 }
 
 // The same with memory for the keys of as many orders as a book may have.
+#[tactic(auto, using(book::proofs::Checking::sound_fits))]
 pub(crate) fn renew(book: &[u8], n: usize, security: u32, ladder: &mut [u8], rows: usize)
     requires { (sound book.now ≡ true)
         × (n ≡ length (orders_of book.now))
@@ -233,17 +220,17 @@ pub(crate) fn renew(book: &[u8], n: usize, security: u32, ladder: &mut [u8], row
         × (drop (24 * rows) ladder.old ≡ replicate (24 * (256 - rows)) 0) }
     ensures { ladder.new ≡ made_of security book.now }
 {
-    let mut keys = no_keys();
-    let mut spare = no_keys();
+    let mut keys = [0; 256];
+    let mut spare = [0; 256];
     renew_in(book, n, security, &mut keys, &mut spare, ladder, rows);
 }
 
-pub(crate) fn hold(book: &[u8], n: usize, security: u32, ladder: &[u8]) -> Held
+#[tactic(auto, using(book::proofs::Checking::sound_fits))]
+pub(crate) fn hold(book: &[u8], n: usize, security: u32, ladder: &[u8]) -> Option<usize>
     requires { (sound book.now ≡ true) × (n ≡ length (orders_of book.now)) × (length ladder.now ≡ ladder_bytes) }
-    ensures { (result.rows ≡ length (rows_of (orders_for security book.now)))
-        × (result.same ≡ same_numbers ladder.now (made_of security book.now)) }
+    ensures { result ≡ then_some (same_numbers ladder.now (made_of security book.now)) (length (rows_of (orders_for security book.now))) }
 {
-    let mut keys = no_keys();
-    let mut spare = no_keys();
+    let mut keys = [0; 256];
+    let mut spare = [0; 256];
     hold_in(book, n, security, &mut keys, &mut spare, ladder)
 }

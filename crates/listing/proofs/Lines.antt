@@ -1,14 +1,17 @@
 -- Texts put into a buffer one behind the other, and the fields of a line.
-use Prim.Native.Nat.{ℕ, ◌+◌, ◌-◌, ◌≤◌, ◌<◌}
+use Prim.Native.Nat.{ℕ, ◌+◌, ◌^◌, ◌≤◌, ◌<◌}
 use mathlib.Core.Path.{◌≡◌, sym, ap, ap₂, ◌∙◌}
-use mathlib.Core.List.{List, ◌++◌, append_assoc}
+use mathlib.Core.List.{List, [], ◌∷◌, ◌++◌, append_assoc}
+use Rattle.std.proofs.Common.{rules}
 use native.Mathlib.Omega.{arith}
-use lib.ListN.{length, take, drop, length-append, length-drop}
-use lib.Seq.{take_all, length-take-le, drop-drop, drop-append-add}
+use lib.ListN.{length, take, drop, length-append}
+use lib.Seq.{length-take-le, drop-drop, drop-append-add}
 use Rattle.record.specs.Codec.{from_bytes, replaced, decode}
 use Rattle.record.specs.Execution.{execution_of, decode_execution}
 use Rattle.record.proofs.Pasting.{take_replaced}
-use Rattle.listing.specs.Listing.{Placed, field, execution_line}
+use Rattle.std.specs.Fmt.{decimal}
+use Rattle.std.proofs.lemmas.Fmt.{PrependsLastDigit, decimal_from_prepends, length-decimal-le}
+use Rattle.listing.specs.Listing.{Placed, digits_before, field, execution_line}
 
 -- bytes put behind others that were put in are put in with them
 module _ (at : ℕ) (a b s : List ℕ) (h : at + length a + length b ≤ length s) where
@@ -31,25 +34,31 @@ module _ (at : ℕ) (a b s : List ℕ) (h : at + length a + length b ≤ length 
       ∙ ap (λ t. take at s ++ t) (sym (append_assoc a b rest) ∙ ap (λ j. (a ++ b) ++ drop j s) e)
 
 -- a text behind another
-pub placed_behind : {a b s m x : List ℕ} {r q : ℕ} → length a + length b ≤ length s → Placed 0 a s m r → Placed r b m x q → Placed 0 (a ++ b) s x q
-placed_behind {a} {b} {s} h p w = record {
+pub placed_behind : {at : ℕ} {a b s m x : List ℕ} {r q : ℕ} → at + length a + length b ≤ length s → Placed at a s m r → Placed r b m x q
+    → Placed at (a ++ b) s x q
+placed_behind {at} {a} {b} {s} h p w = record {
   ends = omega (arith, p.ends, w.ends, length-append a b);
-  bytes = w.bytes ∙ ap₂ (λ k t. replaced k b t) p.ends p.bytes ∙ joined 0 a b s (omega arith);
+  bytes = w.bytes ∙ ap₂ (λ k t. replaced k b t) p.ends p.bytes ∙ joined at a b s h;
 }
+
+-- a text was put: where it ends, and the bytes
+pub placed : {at : ℕ} {a s x : List ℕ} {r : ℕ} → r ≡ at + length a → x ≡ replaced at a s → Placed at a s x r
+placed e b = record { ends = e; bytes = b }
 
 -- the same text, said another way
 pub placed_as : {at : ℕ} {a b s x : List ℕ} {r : ℕ} → a ≡ b → Placed at a s x r → Placed at b s x r
 placed_as e p = rw e at p
 
--- a field, as it stands at the end of an array
-pub field_placed : (at start m n end : ℕ) (bytes out after : List ℕ) → start < 10 → length bytes ≡ 11 → drop start bytes ≡ field n end
-    → m ≡ 11 - start → after ≡ replaced at (take m (drop start bytes)) out → Placed at (field n end) out after (at + (11 - start))
-field_placed at start m n end bytes out after h l f e p =
-    let w : take m (drop start bytes) ≡ drop start bytes = take_all m (drop start bytes) (omega (arith, length-drop start bytes)) in
-    record {
-      ends = omega (arith, ap length f, length-drop start bytes);
-      bytes = p ∙ ap (λ t. replaced at t out) (w ∙ f);
-    }
+-- the last digit is written in front of those behind it
+prepends : PrependsLastDigit digits_before
+unfolding digits_before
+prepends = search rules
+
+-- what the library writes of a number, and the byte behind it, are a field
+pub field_of : {digits : List ℕ} {n : ℕ} (b : ℕ) → n < 2 ^ 32 → digits ≡ decimal n → digits ++ (b ∷ []) ≡ field n b
+field_of {digits} {n} b h e =
+    let l : length (decimal n) ≤ 10 = length-decimal-le 10 n (omega arith) (omega arith) (omega arith) in
+    ap (λ ds. ds ++ (b ∷ [])) e ∙ sym (decimal_from_prepends digits_before prepends 10 n (b ∷ []) (omega arith) l)
 
 -- the numbers of an execution stand at its bytes 4, 8 and 12
 line_of : (s : List ℕ) (at : ℕ)

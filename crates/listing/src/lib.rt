@@ -1,4 +1,5 @@
-// The lines that a fillsheet writes, as bytes at the start of a buffer.
+// The lines that a fillsheet writes, as bytes at the start of a buffer. No Display: `write!` doesn't promise that it succeeds where there
+// is room, and a String needs heap.
 #![tactic(auto)]
 
 mod fields;
@@ -8,7 +9,7 @@ ghost use Rattle.record.specs.Execution.{decode_execution};
 ghost use Rattle.units.specs.Text.{line_feed};
 ghost use Rattle.listing.specs.Listing.{Placed, field, execution_line, left_line, refusal_line};
 
-use fields::put_field;
+use fields::{put_field, put_text};
 use record::bytes;
 
 // The line of the execution that begins at a byte. Gives its length.
@@ -29,8 +30,8 @@ fn word_line(word: &[u8], n: u32, out: &mut [u8]) -> usize
     requires { (length word.now ≤ 22) × (33 ≤ length out.old) }
     ensures { (result ≤ 33) × Placed 0 (word.now ++ field n line_feed) out.old out.new result }
 {
-    bytes::put(out, 0, word);
-    put_field(out, word.len(), n, b'\n')
+    let behind = put_text(out, 0, word);
+    put_field(out, behind, n, b'\n')
 }
 
 // The line of the shares left. Gives its length.

@@ -5,8 +5,8 @@ ghost use Rattle.book.specs.Sound.{setters_sound, first_orders};
 ghost use Rattle.lookup.specs.Setters.{setter_key, has_security, marked_in};
 
 use book::records;
-use book::records::RECORD_BYTES;
 use orders::order::Order;
+use record::order_record;
 
 // One number for an order's security, side and price.
 fn key_of(order: Order) -> u64
@@ -14,42 +14,26 @@ fn key_of(order: Order) -> u64
 {
     let side = order.side;
     let price = order.price;
-    8 * (price.0 as u64) + 4 * (order.security as u64) + (side.number() as u64)
+    8 * (price.0 as u64) + 4 * (order.security as u64) + u64::from(u8::from(side))
 }
 
 // Whether one of the keys is this one.
 fn contains(keys: &[u64], key: u64) -> bool
     ensures { result ≡ any (eqb key) keys.now }
 {
-    let mut found = false;
-    let mut i = 0;
-    while i < keys.len() {
-        found = found | (key == keys[i]);
-        i += 1;
-    }
-    found
-}
-
-fn no_keys() -> [u64; 256] {
-    [0; 256]
+    keys.iter().fold(false, |found, k| found | (key == *k))
 }
 
 // How many of the first n orders are marked.
+#[tactic(auto, using(crate::proofs::Counting::counted))]
 fn count_marked(book: &[u8], n: usize) -> usize
     requires { 40 * n ≤ length book.now }
     ensures { result ≡ marked_in (first_orders n book.now) }
 {
-    let mut count = 0;
-    let mut at = 0;
-    let mut left = n;
-    while 0 < left {
-        if records::order_at(book, at).setter {
-            count += 1;
-        }
-        at += RECORD_BYTES;
-        left -= 1;
-    }
-    count
+    records::first(book, n)
+        .iter()
+        .filter(|rec| order_record::read(*rec).setter)
+        .count()
 }
 
 // Whether no two of the first n orders, of securities that there are, are marked at one security, side and price: by the key of each marked
@@ -58,12 +42,10 @@ fn are_apart_by_key(book: &[u8], n: usize) -> bool
     requires { (40 * n ≤ length book.now) × (n ≤ 256) }
     ensures { all has_security (first_orders n book.now) ≡ true → result ≡ setters_sound (first_orders n book.now) }
 {
-    let mut keys = no_keys();
+    let mut keys = [0; 256];
     let mut marked = 0;
-    let mut at = 0;
-    let mut left = n;
-    while 0 < left {
-        let order = records::order_at(book, at);
+    for rec in records::first(book, n) {
+        let order = order_record::read(rec);
         if order.setter {
             let key = key_of(order);
             if contains(&keys[..marked], key) {
@@ -72,13 +54,12 @@ fn are_apart_by_key(book: &[u8], n: usize) -> bool
             keys[marked] = key;
             marked += 1;
         }
-        at += RECORD_BYTES;
-        left -= 1;
     }
     true
 }
 
 // The same, without a comparison where fewer than two are marked.
+#[tactic(auto, using(crate::proofs::Counting::few_apart))]
 pub(crate) fn are_apart(book: &[u8], n: usize) -> bool
     requires { (40 * n ≤ length book.now) × (n ≤ 256) }
     ensures { all has_security (first_orders n book.now) ≡ true → result ≡ setters_sound (first_orders n book.now) }

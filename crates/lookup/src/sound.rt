@@ -7,34 +7,21 @@ ghost use Rattle.book.specs.Sound.{most_orders, form, record_bytes, rising, sett
 use crate::setters;
 use book::records;
 use book::records::RECORD_BYTES;
+use record::form::RecordForm;
 use record::{bytes, order_record};
-
-// A book has room for at most 256 orders.
-const MOST_BYTES: usize = 256 * RECORD_BYTES;
 
 // Whether so many bytes are a whole number of records, at most 256.
 pub(crate) fn has_whole_records(length: usize) -> bool
     ensures { result ≡ (leb length (most_orders * record_bytes) && is_zero (length % record_bytes)) }
 {
-    (length <= MOST_BYTES) & (length % RECORD_BYTES == 0)
+    records::is_whole(RecordForm::New, length)
 }
 
 // How many records come before the first unused one.
 pub(crate) fn count_occupied(book: &[u8]) -> usize
     ensures { (result ≡ length (occupied (records_in form book.now))) × (40 * result ≤ length book.now) }
 {
-    let mut at = 0;
-    let mut left = book.len() / RECORD_BYTES;
-    let mut n = 0;
-    while 0 < left {
-        if book[at] == 0 {
-            return n;
-        }
-        at += RECORD_BYTES;
-        left -= 1;
-        n += 1;
-    }
-    n
+    records::count_occupied(RecordForm::New, book)
 }
 
 // Whether each of the first n records is sound by itself.
@@ -42,15 +29,9 @@ fn records_sound(book: &[u8], n: usize) -> bool
     requires { 40 * n ≤ length book.now }
     ensures { result ≡ all (record_sound form) (first_records form n book.now) }
 {
-    let mut sound = true;
-    let mut at = 0;
-    let mut left = n;
-    while 0 < left {
-        sound = sound & order_record::is_sound(&book[at..at + RECORD_BYTES]);
-        at += RECORD_BYTES;
-        left -= 1;
-    }
-    sound
+    records::first(book, n)
+        .iter()
+        .fold(true, |sound, rec| sound & order_record::is_sound(rec))
 }
 
 // Whether the numbers of the first n orders rise strictly.
@@ -59,20 +40,17 @@ fn numbers_rise(book: &[u8], n: usize) -> bool
     ensures { result ≡ rising 0 (first_orders n book.now) }
 {
     let mut rising = true;
-    let mut at = 0;
-    let mut left = n;
     let mut last = 0;
-    while 0 < left {
-        let number = records::order_at(book, at).number;
+    for rec in records::first(book, n) {
+        let number = order_record::read(rec).number;
         rising = rising & (last < number);
         last = number;
-        at += RECORD_BYTES;
-        left -= 1;
     }
     rising
 }
 
 // Whether the first n records are those of sound orders and every byte behind them is zero.
+#[tactic(auto, using(crate::proofs::Ranges::apart_where, units::proofs::Scanning::take_rest))]
 pub(crate) fn is_sound(book: &[u8], n: usize) -> bool
     requires { (40 * n ≤ length book.now) × (n ≤ 256) }
     ensures { result ≡ (all (record_sound form) (first_records form n book.now)

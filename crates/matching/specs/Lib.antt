@@ -4,6 +4,7 @@ pub mod Paragraph
 pub mod Numbered
 pub mod Take
 pub mod TakeCall
+pub mod Answer
 pub mod Fairness
 pub mod Naming
 pub mod Parts

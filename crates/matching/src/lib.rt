@@ -4,10 +4,13 @@
 pub mod incoming;
 
 ghost use Rattle.std.specs.Prelude.{◌≡◌};
+ghost use Rattle.matching.specs.Answer.{taken};
 ghost use Rattle.matching.specs.Paragraph.{algorithm_of, paragraph_number, pro_rata_method, method_of};
 ghost use Rattle.matching.specs.Numbered.{paragraph_numbered};
 
+use book::refusal::Refusal;
 use sharing::{Method, Rank};
+use units::Shares;
 
 // The execution algorithms of Rule 3307. PriceSetter is pro rata with the variation for price-setting orders.
 #[derive(Clone, Copy)]
@@ -17,18 +20,18 @@ pub enum Algorithm {
     PriceSetter,
 }
 
-impl Algorithm {
-    // The algorithm of a number.
-    pub fn of(number: u32) -> Algorithm
+// The algorithm of a number: behind the second it is the last.
+impl From<u32> for Algorithm {
+    ghost from_gives = { λ number algorithm. algorithm ≡ algorithm_of number };
+
+    fn from(number: u32) -> Algorithm
         ensures { result ≡ algorithm_of number }
     {
-        if number == 1 {
-            return Algorithm::PriceTime;
+        match number {
+            1 => Algorithm::PriceTime,
+            2 => Algorithm::ProRata,
+            _ => Algorithm::PriceSetter,
         }
-        if number == 2 {
-            return Algorithm::ProRata;
-        }
-        Algorithm::PriceSetter
     }
 }
 
@@ -42,31 +45,31 @@ pub enum Paragraph {
     Six,
 }
 
-impl Paragraph {
-    // The paragraph of a number: below the first it is the first, and behind the last the last.
-    pub fn of(number: u8) -> Paragraph
+// The paragraph of a number: below the first it is the first, and behind the last the last.
+impl From<u8> for Paragraph {
+    ghost from_gives = { λ number paragraph. paragraph ≡ paragraph_numbered number };
+
+    fn from(number: u8) -> Paragraph
         ensures { result ≡ paragraph_numbered number }
     {
-        if number <= 2 {
-            return Paragraph::Two;
+        match number {
+            0..=2 => Paragraph::Two,
+            3 => Paragraph::Three,
+            4 => Paragraph::Four,
+            5 => Paragraph::Five,
+            _ => Paragraph::Six,
         }
-        if number == 3 {
-            return Paragraph::Three;
-        }
-        if number == 4 {
-            return Paragraph::Four;
-        }
-        if number == 5 {
-            return Paragraph::Five;
-        }
-        Paragraph::Six
     }
+}
 
-    // Its number in the rule.
-    pub fn number(self) -> u8
-        ensures { result ≡ paragraph_number self }
+// A paragraph's number in the rule.
+impl From<Paragraph> for u8 {
+    ghost from_gives = { λ paragraph number. number ≡ paragraph_number paragraph };
+
+    fn from(paragraph: Paragraph) -> u8
+        ensures { result ≡ paragraph_number paragraph }
     {
-        match self {
+        match paragraph {
             Paragraph::Two => 2,
             Paragraph::Three => 3,
             Paragraph::Four => 4,
@@ -74,7 +77,9 @@ impl Paragraph {
             Paragraph::Six => 6,
         }
     }
+}
 
+impl Paragraph {
     // How its group shares under pro rata.
     fn pro_rata_method(self) -> Method
         ensures { result ≡ pro_rata_method self }
@@ -92,16 +97,10 @@ impl Paragraph {
     pub fn method(self, algorithm: Algorithm) -> Method
         ensures { result ≡ method_of algorithm self }
     {
-        match algorithm {
-            Algorithm::PriceTime => Method::InTurn(Rank::Time),
-            Algorithm::ProRata => self.pro_rata_method(),
-            Algorithm::PriceSetter => {
-                if self.number() == 2 {
-                    Method::Setter
-                } else {
-                    self.pro_rata_method()
-                }
-            }
+        match (algorithm, self) {
+            (Algorithm::PriceTime, _) => Method::InTurn(Rank::Time),
+            (Algorithm::PriceSetter, Paragraph::Two) => Method::Setter,
+            _ => self.pro_rata_method(),
         }
     }
 }
@@ -117,11 +116,42 @@ pub struct TakeRequest {
     pub security: u32,
 }
 
-// What take answers: its refusal, how many executions it wrote, and the shares left.
+// What an accepted take answers: how many executions it wrote, and the shares left.
+#[derive(Clone, Copy)]
+pub struct Filled {
+    pub count: u32,
+    pub left: Shares,
+}
+
+// What take answers in C: its refusal, and those numbers.
 #[repr(C)]
 #[derive(Clone, Copy)]
 pub struct Taken {
     pub refusal: u32,
     pub count: u32,
     pub left: u32,
+}
+
+impl From<Result<Filled, Refusal>> for Taken {
+    ghost from_gives = { λ answer t. t ≡ taken answer };
+
+    fn from(answer: Result<Filled, Refusal>) -> Taken
+        ensures { result ≡ taken answer }
+    {
+        match answer {
+            Ok(filled) => {
+                let left = filled.left;
+                Taken {
+                    refusal: 0,
+                    count: filled.count,
+                    left: left.0,
+                }
+            }
+            Err(refusal) => Taken {
+                refusal: refusal.into(),
+                count: 0,
+                left: 0,
+            },
+        }
+    }
 }

@@ -5,25 +5,31 @@ ghost use Rattle.orders.specs.Order.{interest, interest_of, all_shares, refreshe
 
 use units::{Price, Shares};
 
-#[derive(Clone, Copy)]
+#[derive(Clone, Copy, PartialEq, Eq)]
 pub enum Side {
     Buy,
     Sell,
 }
 
-impl Side {
-    // The side of a number.
-    pub fn of(number: u32) -> Side
+// The side of a number: every number but that of a buy is a sell's.
+impl From<u32> for Side {
+    ghost from_gives = { λ number side. side ≡ side_of number };
+
+    fn from(number: u32) -> Side
         ensures { result ≡ side_of number }
     {
         if number == 1 { Side::Buy } else { Side::Sell }
     }
+}
 
-    // The number of a side.
-    pub fn number(self) -> u8
-        ensures { result ≡ side_number self }
+// The number of a side.
+impl From<Side> for u8 {
+    ghost from_gives = { λ side number. number ≡ side_number side };
+
+    fn from(side: Side) -> u8
+        ensures { result ≡ side_number side }
     {
-        match self {
+        match side {
             Side::Buy => 1,
             Side::Sell => 2,
         }
@@ -32,7 +38,7 @@ impl Side {
 
 // Only a minimum quantity order carries a minimum, and only a reserve order hidden shares, behind those that it shows, and a refresh size.
 // The two that count as displayed stand together: whether a kind is one of them is one comparison.
-#[derive(Clone, Copy)]
+#[derive(Clone, Copy, PartialEq, Eq)]
 pub enum Kind {
     Displayed,
     Reserve(Shares, Shares),
@@ -41,23 +47,19 @@ pub enum Kind {
 }
 
 impl Kind {
-    // The kind of a number, with the minimum, the hidden shares and the refresh size.
+    // The kind of a number, with the minimum, the hidden shares and the refresh size: four numbers, and so no From of one.
     pub fn of(number: u32, minimum: u32, hidden: u32, refresh: u32) -> Kind
         ensures { result ≡ kind_of number minimum hidden refresh }
     {
-        if number == 1 {
-            return Kind::Displayed;
+        match number {
+            1 => Kind::Displayed,
+            2 => Kind::NonDisplayed,
+            3 => Kind::MinimumQuantity(Shares(minimum)),
+            _ => Kind::Reserve(Shares(hidden), Shares(refresh)),
         }
-        if number == 2 {
-            return Kind::NonDisplayed;
-        }
-        if number == 3 {
-            return Kind::MinimumQuantity(Shares(minimum));
-        }
-        Kind::Reserve(Shares(hidden), Shares(refresh))
     }
 
-    // The number of a kind.
+    // The number of a kind. It says nothing of what a kind carries, and so is no From.
     pub fn number(self) -> u8
         ensures { result ≡ kind_number self }
     {
@@ -74,10 +76,8 @@ impl Kind {
         ensures { result.0 ≡ minimum_of self }
     {
         match self {
-            Kind::Displayed => Shares(0),
-            Kind::NonDisplayed => Shares(0),
             Kind::MinimumQuantity(minimum) => minimum,
-            Kind::Reserve(_, _) => Shares(0),
+            _ => Shares(0),
         }
     }
 
@@ -86,10 +86,8 @@ impl Kind {
         ensures { result.0 ≡ hidden_of self }
     {
         match self {
-            Kind::Displayed => Shares(0),
-            Kind::NonDisplayed => Shares(0),
-            Kind::MinimumQuantity(_) => Shares(0),
             Kind::Reserve(hidden, _) => hidden,
+            _ => Shares(0),
         }
     }
 
@@ -98,10 +96,8 @@ impl Kind {
         ensures { result.0 ≡ refresh_of self }
     {
         match self {
-            Kind::Displayed => Shares(0),
-            Kind::NonDisplayed => Shares(0),
-            Kind::MinimumQuantity(_) => Shares(0),
             Kind::Reserve(_, refresh) => refresh,
+            _ => Shares(0),
         }
     }
 
@@ -114,7 +110,7 @@ impl Kind {
 }
 
 // An order number is also the order's time: a lower one is earlier. The size of a reserve order is the shares that it shows.
-#[derive(Clone, Copy)]
+#[derive(Clone, Copy, PartialEq, Eq)]
 pub struct Order {
     pub side: Side,
     pub kind: Kind,
@@ -154,12 +150,10 @@ impl Order {
     pub fn displayed(self) -> Shares
         ensures { result.0 ≡ (interest_of self).displayed }
     {
-        let kind = self.kind;
-        match kind {
+        match self.kind {
             Kind::Displayed => self.size,
-            Kind::NonDisplayed => Shares(0),
-            Kind::MinimumQuantity(_) => Shares(0),
             Kind::Reserve(_, _) => self.size,
+            _ => Shares(0),
         }
     }
 
@@ -167,8 +161,7 @@ impl Order {
     pub fn non_displayed(self) -> Shares
         ensures { result.0 ≡ (interest_of self).non_displayed }
     {
-        let kind = self.kind;
-        match kind {
+        match self.kind {
             Kind::Displayed => Shares(0),
             Kind::NonDisplayed => self.size,
             Kind::MinimumQuantity(_) => self.size,
@@ -181,8 +174,7 @@ impl Order {
         ensures { result ≡ leb shares.0 (all_shares (interest_of self)) }
     {
         let beyond = units::difference(shares, self.displayed());
-        let others = self.non_displayed();
-        beyond.0 <= others.0
+        beyond <= self.non_displayed()
     }
 
     // Whether it has shares.
@@ -196,17 +188,7 @@ impl Order {
     fn with(self, kind: Kind, size: Shares) -> Order
         ensures { result ≡ record { side = self.side; kind = kind; number = self.number; price = self.price; size = size; setter = self.setter; security = self.security } }
     {
-        let side = self.side;
-        let price = self.price;
-        Order {
-            side,
-            kind,
-            number: self.number,
-            price,
-            size,
-            setter: self.setter,
-            security: self.security,
-        }
+        Order { kind, size, ..self }
     }
 
     // The order after it lost displayed and non-displayed shares: a minimum above the new size becomes the new size, and a reserve order
@@ -230,16 +212,14 @@ impl Order {
                     units::difference(size, shown),
                     units::difference(behind, hidden),
                 );
-                let displayed = left.displayed;
-                let others = left.others;
-                self.with(Kind::Reserve(others, refresh), displayed)
+                self.with(Kind::Reserve(left.others, refresh), left.displayed)
             }
         }
     }
 }
 
 // An order seen as a taker of liquidity: its side, the worst price that it trades at, and its security.
-#[derive(Clone, Copy)]
+#[derive(Clone, Copy, PartialEq, Eq)]
 pub struct Taker {
     pub side: Side,
     pub limit: Price,

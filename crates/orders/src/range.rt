@@ -6,7 +6,7 @@ ghost use Rattle.orders.specs.Order.{number_in_range, price_in_range, shares_in_
 pub fn number_in_range(number: u32) -> bool
     ensures { result ≡ number_in_range number }
 {
-    units::in_range(1, 4_294_967_295, number)
+    units::in_range(1, u32::MAX, number)
 }
 
 // Whether it can have this price.

@@ -9,27 +9,16 @@ use units::Price;
 pub fn is_opposite(a: Side, b: Side) -> bool
     ensures { result ≡ is_opposite a b }
 {
-    match a {
-        Side::Buy => match b {
-            Side::Buy => false,
-            Side::Sell => true,
-        },
-        Side::Sell => match b {
-            Side::Buy => true,
-            Side::Sell => false,
-        },
-    }
+    a != b
 }
 
 // Whether a taker of this side trades at the price.
 pub fn within_limit(side: Side, limit: Price, price: Price) -> bool
     ensures { result ≡ within_limit side limit.0 price.0 }
 {
-    let l = limit.0;
-    let p = price.0;
     match side {
-        Side::Buy => p <= l,
-        Side::Sell => l <= p,
+        Side::Buy => price <= limit,
+        Side::Sell => limit <= price,
     }
 }
 
@@ -37,10 +26,8 @@ pub fn within_limit(side: Side, limit: Price, price: Price) -> bool
 pub fn is_priced_better(side: Side, p: Price, q: Price) -> bool
     ensures { result ≡ is_priced_better side p.0 q.0 }
 {
-    let a = p.0;
-    let b = q.0;
     match side {
-        Side::Buy => b < a,
-        Side::Sell => a < b,
+        Side::Buy => q < p,
+        Side::Sell => p < q,
     }
 }

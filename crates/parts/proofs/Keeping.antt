@@ -1,7 +1,8 @@
 -- Keys that are kept or not: each is written behind those kept so far, and stays there if it passes a test.
 use Prim.Native.Nat.{ℕ, suc, ◌+◌, ◌≤◌, ◌<◌}
-use mathlib.Core.Path.{◌≡◌, ◌∙◌}
-use mathlib.Core.Bool.{Bool}
+use mathlib.Core.Path.{◌≡◌, refl, ◌∙◌}
+use mathlib.Core.Bool.{Bool, true, false}
+use Rattle.std.specs.Int.{from_bool}
 use mathlib.Core.List.{List, [], ◌++◌}
 use native.Mathlib.Omega.{arith}
 use native.Mathlib.Numerals.{add-one}
@@ -15,6 +16,15 @@ use Rattle.matching.specs.declared.incoming.Incoming.{Incoming}
 use Rattle.book.specs.Sound.{orders_of, order_at}
 use Rattle.book.proofs.Access.{order_here}
 use Rattle.parts.specs.Parts.{keys_of, keys_from}
+
+-- a test as a number
+pub as_one : (b : Bool) → from_bool b ≡ or_zero b 1
+as_one true = refl
+as_one false = refl
+
+pub one_most : (b : Bool) {n : ℕ} → n ≡ from_bool b → n ≤ 1
+one_most true e = omega arith
+one_most false e = omega arith
 
 -- the kept keys, with two more if they pass, and what is to come
 pub kept_two : (b : Bool) (keys : List ℕ) (count x y : ℕ) (rest : List ℕ) → count + 1 < length keys

@@ -5,22 +5,28 @@ use mathlib.Core.Bool.{Bool, true, false, not, ◌&&◌}
 use mathlib.Core.List.{List, [], ◌∷◌}
 use native.Mathlib.Omega.{arith}
 use native.Mathlib.Numerals.{add-one}
-use lib.ListN.{length, get_or, take, drop}
-use lib.Seq.{take-suc, drop-cons}
+use lib.ListN.{length, get_or, drop}
+use lib.Seq.{drop-cons}
 use lib.Dec.{eqb}
+use Rattle.std.proofs.Common.{Option, Some, None}
+use Rattle.std.specs.Option.{MatchOption, unwrap_or}
 use Rattle.units.specs.Lists.{filter, or_zero, total}
 use Rattle.units.proofs.Tests.{pick_least}
-use Rattle.units.proofs.Members.{Every, every_weaken, every_append}
+use Rattle.units.proofs.Members.{Every, every_weaken}
 use Rattle.matching.specs.declared.Algorithm.{Algorithm}
 use Rattle.parts.specs.Key.{rank_in, group_in, paragraph_in, shares_in}
 use Rattle.parts.specs.Narrowed.{minimum_paragraph, of_rank, free_shares, Narrowed, best}
 
--- one key more is read, and what is kept is no higher than it and no higher than what was kept
-pub lowest_more : (keys : List ℕ) (k low lower : ℕ) → k < length keys → lower ≤ low → lower ≤ get_or keys k 0
-    → Every (λ x. low ≤ x) (take k keys) → Every (λ x. lower ≤ x) (take (k + 1) keys)
-lowest_more keys k low lower h l m e =
-    rw (add-one, take-suc keys k 0 h)
-    (every_append (λ x. lower ≤ x) (take k keys) (get_or keys k 0 ∷ []) (every_weaken (λ x n. omega arith) (take k keys) e) (m, tt))
+-- what is no higher than the key at each place is no higher than any
+lowest_at : (low : ℕ) (keys : List ℕ) → ((k : ℕ) → k < length keys → low ≤ get_or keys k 0) → Every (λ x. low ≤ x) keys
+lowest_at low [] h = tt
+lowest_at low (k ∷ ks) h = (h 0 (omega arith), lowest_at low ks (λ i l. h (suc i) (omega arith)))
+
+-- a lowest key, or any number where there is none
+pub lowest_done : (most : ℕ) (keys : List ℕ) (r : Option ℕ) → MatchOption r (length keys ≡ 0) (λ m. (k : ℕ) → k < length keys → m ≤ get_or keys k 0)
+    → Every (λ x. unwrap_or r most ≤ x) keys
+lowest_done most keys None h = lowest_at most keys (λ k l. absurd (omega arith))
+lowest_done most keys (Some m) h = lowest_at m keys h
 
 -- the lowest key has the lowest rank
 lowest_rank : (low : ℕ) (keys : List ℕ) → Every (λ k. low ≤ k) keys → Every (λ k. rank_in low ≤ rank_in k) keys

@@ -12,17 +12,10 @@ use units::Shares;
 fn lowest(keys: &[u64]) -> u64
     ensures { Every (λ k. result ≤ k) keys.now }
 {
-    let mut low = 0xffff_ffff_ffff_ffff;
-    let mut k = 0;
-    while k < keys.len() {
-        let key = keys[k];
-        low = if key < low { key } else { low };
-        k += 1;
-    }
-    low
+    keys.iter().copied().min().unwrap_or(u64::MAX)
 }
 
-// The number of the paragraph in whose group orders with a minimum stand.
+// The number of the paragraph in whose group orders with a minimum stand; a number, as keys hold it.
 fn minimum_paragraph(algorithm: Algorithm) -> u64
     ensures { result ≡ minimum_paragraph algorithm }
 {
@@ -39,7 +32,7 @@ fn free_shares(key: u64, rank: u64, excluded: u64) -> Shares
 {
     let test = (key::rank(key) == rank) & !(key::group(key) % 8 == excluded);
     let shares = key::shares(key);
-    Shares(units::one_if(test) * shares.0)
+    Shares(u32::from(test) * shares.0)
 }
 
 // The shares of the parts of a rank that have no minimum.
@@ -49,10 +42,8 @@ fn free_total(keys: &[u64], algorithm: Algorithm, rank: u64) -> Shares
 {
     let excluded = minimum_paragraph(algorithm);
     let mut total = Shares(0);
-    let mut k = 0;
-    while k < keys.len() {
-        total = units::sum(total, free_shares(keys[k], rank, excluded));
-        k += 1;
+    for &key in keys {
+        total = units::sum(total, free_shares(key, rank, excluded));
     }
     total
 }
@@ -62,12 +53,10 @@ fn keep(keys: &mut [u64], rank: u64) -> usize
     ensures { (result ≤ length keys.old) × (take result keys.new ≡ filter (of_rank rank) keys.old) }
 {
     let mut count = 0;
-    let mut k = 0;
-    while k < keys.len() {
+    for k in 0..keys.len() {
         let key = keys[k];
         keys[count] = key;
-        count += units::one_if(key::rank(key) == rank) as usize;
-        k += 1;
+        count += usize::from(key::rank(key) == rank);
     }
     count
 }

@@ -1,16 +1,19 @@
-// A part of an order as one number: the rank of its price, the number of its paragraph, the place of its record, and its shares.
+// A part of an order as one number: the rank of its price, the number of its paragraph, the place of its record, and its shares. A plain
+// number and no type of its own: the slices of keys that are lent are of numbers, and `ordering` sorts those.
 ghost use Rattle.std.specs.Prelude.{◌≡◌, ◌<◌, leb};
 ghost use Rattle.parts.specs.Key.{key_of, rank_in, group_in, paragraph_in, place_in, shares_in, with_shares};
 
 use units::Shares;
 
-// The number of a part.
+// The number of a part. The place by `as`: std has no u64 from a usize.
 pub(crate) fn key_of(rank: u32, paragraph: u64, place: usize, shares: Shares) -> u64
     requires { (paragraph < 8) × (place < 512) × (shares.0 < 1048576) }
     ensures { result ≡ key_of rank paragraph place shares.0 }
 {
-    let s = shares.0 as u64;
-    4_294_967_296 * (rank as u64) + 536_870_912 * paragraph + 1_048_576 * (place as u64) + s
+    4_294_967_296 * u64::from(rank)
+        + 536_870_912 * paragraph
+        + 1_048_576 * (place as u64)
+        + u64::from(shares.0)
 }
 
 // The rank of its price.
@@ -38,8 +41,7 @@ pub fn paragraph(key: u64) -> u8
 pub fn stands_up_to(key: u64, last: u8) -> bool
     ensures { result ≡ leb (paragraph_in (group_in key)) last }
 {
-    let l = last as u64;
-    key % 4_294_967_296 < 536_870_912 * (l + 1)
+    key % 4_294_967_296 < 536_870_912 * (u64::from(last) + 1)
 }
 
 // The place of its order's record.
@@ -60,6 +62,5 @@ pub fn with_shares(key: u64, shares: Shares) -> u64
     requires { shares.0 < 1048576 }
     ensures { result ≡ with_shares shares.0 key }
 {
-    let s = shares.0 as u64;
-    key - key % 1_048_576 + s
+    key - key % 1_048_576 + u64::from(shares.0)
 }

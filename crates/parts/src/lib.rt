@@ -49,26 +49,22 @@ fn paragraph_numbers(algorithm: Algorithm) -> [u64; 10]
     }
 }
 
-// The part of an order of this kind's number and this price whose size is so many shares.
-fn part_of(
-    kind: u32,
-    shares: Shares,
-    price: u32,
-    place: usize,
-    side: Side,
-    paragraphs: &[u64],
+// In whose groups parts stand: the numbers of the paragraphs, and the lot that they turn on.
+#[derive(Clone, Copy)]
+struct Groups {
+    numbers: [u64; 10],
     lot: Shares,
-) -> u64
-    requires { (kind ≤ 4)
-        × (shares.0 ≤ 999999)
-        × (place < 512)
-        × (length paragraphs.now ≡ 10)
-        × ((k : ℕ) → get_or paragraphs.now k 0 < 8) }
-    ensures { (k : Kind) (alg : Algorithm) → kind ≡ kind_number k → Tells alg paragraphs.now
-        → result ≡ key_of (rank_on side price) (paragraph_for lot.0 alg (visibility_of k) (is_minimum_quantity k) shares.0) place shares.0 }
+    ghost few: { (k : ℕ) → get_or numbers k 0 < 8 },
+}
+
+// The part of an order of this kind's number and this price whose size is so many shares.
+fn part_of(kind: u32, shares: Shares, price: u32, place: usize, side: Side, groups: &Groups) -> u64
+    requires { (kind ≤ 4) × (shares.0 ≤ 999999) × (place < 512) }
+    ensures { (k : Kind) (alg : Algorithm) → kind ≡ kind_number k → Tells alg groups.now.numbers
+        → result ≡ key_of (rank_on side price) (paragraph_for groups.now.lot.0 alg (visibility_of k) (is_minimum_quantity k) shares.0) place shares.0 }
 {
-    let column = 2 * (kind as usize) + (units::one_if(shares.0 < lot.0) as usize);
-    key::key_of(rank_on(side, price), paragraphs[column], place, shares)
+    let column = 2 * (kind as usize) + usize::from(shares.0 < groups.lot.0);
+    key::key_of(rank_on(side, price), groups.numbers[column], place, shares)
 }
 
 // Whether an incoming order of this side may trade with the order of a record's numbers, and has the shares for its minimum.
@@ -79,7 +75,7 @@ fn may_meet(numbers: Numbers, incoming: Incoming) -> bool
     let side = taker.side;
     let limit = taker.limit;
     let size = incoming.size;
-    let other = 3 - (side.number() as u32);
+    let other = 3 - u32::from(u8::from(side));
     (numbers.security == taker.security)
         & (numbers.side == other)
         & (rank_on(side, numbers.price) <= rank_on(side, limit.0))
@@ -92,47 +88,35 @@ fn write_parts(
     numbers: Numbers,
     place: usize,
     incoming: Incoming,
-    paragraphs: &[u64],
-    lot: Shares,
+    groups: &Groups,
     keys: &mut [u64],
     count: usize,
 ) -> usize
     requires { (place < 512)
-        × (length paragraphs.now ≡ 10)
-        × ((k : ℕ) → get_or paragraphs.now k 0 < 8)
         × ((o : Order) × OrderSound o × (numbers ≡ named_numbers (numbers_of o)))
         × (count + 2 ≤ length keys.old) }
     ensures { (length keys.new ≡ length keys.old)
         × (result ≤ count + 2)
-        × ((o : Order) (alg : Algorithm) (others : List ℕ) → OrderSound o → numbers ≡ named_numbers (numbers_of o) → Tells alg paragraphs.now
-        → take result keys.new ++ others ≡ take count keys.old ++ keys_of lot.0 alg incoming place o others) }
+        × ((o : Order) (alg : Algorithm) (others : List ℕ) → OrderSound o → numbers ≡ named_numbers (numbers_of o) → Tells alg groups.now.numbers
+        → take result keys.new ++ others ≡ take count keys.old ++ keys_of groups.now.lot.0 alg incoming place o others) }
 {
     let taker = incoming.taker;
     let side = taker.side;
     let price = numbers.price;
-    let met = units::one_if(may_meet(numbers, incoming)) as usize;
+    let met = usize::from(may_meet(numbers, incoming));
     keys[count] = part_of(
         numbers.kind,
         Shares(numbers.size),
         price,
         place,
         side,
-        paragraphs,
-        lot,
+        groups,
     );
     let next = count + met;
     if numbers.hidden == 0 {
         return next;
     }
-    keys[next] = part_of(
-        2,
-        Shares(numbers.hidden),
-        price,
-        place,
-        side,
-        paragraphs,
-        lot,
-    );
+    keys[next] = part_of(2, Shares(numbers.hidden), price, place, side, groups);
     next + met
 }
 
@@ -148,13 +132,14 @@ fn collect(
     requires { (sound book.now ≡ true) × (n ≡ length (orders_of book.now)) × (2 * n ≤ length keys.old) }
     ensures { (result ≤ 2 * n) × (take result keys.new ≡ keys_from lot.0 algorithm incoming 0 (orders_of book.now)) }
 {
-    let paragraphs = paragraph_numbers(algorithm);
+    let groups = Groups {
+        numbers: paragraph_numbers(algorithm),
+        lot,
+    };
     let mut count = 0;
-    let mut i = 0;
-    while i < n {
+    for i in 0..n {
         let numbers = records::numbers_at(book, RECORD_BYTES * i);
-        count = write_parts(numbers, i, incoming, &paragraphs, lot, keys, count);
-        i += 1;
+        count = write_parts(numbers, i, incoming, &groups, keys, count);
     }
     count
 }

@@ -5,29 +5,19 @@ use mathlib.Core.List.{List, ◌++◌, append-nil, append_assoc}
 use native.Mathlib.Omega.{arith}
 use native.Mathlib.Numerals.{add-one}
 use lib.ListN.{length, get_or, take, drop, set, length-append, length-drop, take-append-drop}
-use lib.Seq.{paste, paste-suc, length-paste, drop-paste, take-length, take-append_seam, length-take-le, drop-length, drop-append-add, drop-drop, get_or-drop}
+use lib.Seq.{paste, paste-suc, drop-paste, take-append_seam, length-take-le, drop-length, drop-append-add, drop-drop, get_or-drop}
 use Rattle.record.specs.Codec.{replaced}
 
 module _ (d s : List ℕ) (at : ℕ) (h : at + length s ≤ length d) (x : List ℕ) (i : ℕ) (e : x ≡ paste d at s i) where
   -- one byte more is put in
-  pub paste_more : i < length s → (v : ℕ) → v ≡ get_or s i 0 → set x (at + i) v ≡ paste d at s (i + 1)
+  paste_more : i < length s → (v : ℕ) → v ≡ get_or s i 0 → set x (at + i) v ≡ paste d at s (i + 1)
   paste_more l v q = rw (e, q, add-one) (paste-suc d at s i 0 (omega arith) l)
-
-  -- the list is as long as it was
-  pub paste_long : i ≤ length s → length x ≡ length d
-  paste_long l = ap length e ∙ length-paste d at s i (omega arith) l
 
   -- what stands behind the bytes that were put in is as it was
   paste_behind : i ≤ length s → (k : ℕ) → get_or x (at + i + k) 0 ≡ get_or d (at + i + k) 0
   paste_behind l k =
       let q : drop (at + i) x ≡ drop (at + i) d = ap (drop (at + i)) e ∙ drop-paste d at s i (omega arith) l in
       sym (get_or-drop (at + i) x k 0) ∙ ap (λ t. get_or t k 0) q ∙ get_or-drop (at + i) d k 0
-
-  -- every byte is put in
-  pub paste_done : i ≤ length s → length s ≤ i → x ≡ replaced at s d
-  paste_done l m =
-      let q : i ≡ length s = omega arith in
-      e ∙ rw (q, take-length) (append_assoc (take at d) s (drop (at + length s) d))
 
 -- What stands k bytes behind a place moves up to it, byte by byte: x is the list after i of them.
 module _ (d : List ℕ) (at k : ℕ) (h : at + k ≤ length d)
@@ -48,14 +38,6 @@ module _ (d : List ℕ) (at k : ℕ) (h : at + k ≤ length d)
       let q : at + k + i ≡ at + i + k = omega arith in
       let v : get_or x (at + k + i) 0 ≡ get_or s i 0 = rw (get_or-drop (at + k) d i 0, q) (paste_behind d s at fits x i e within k) in
       paste_more d s at fits x i e (omega (arith, count)) (get_or x (at + k + i) 0) v
-
-  -- the list is as long as it was
-  pub move_long : length x ≡ length d
-  move_long = paste_long d (drop (at + k) d) at fits x i e within
-
-  -- every byte has moved
-  pub move_done : length d - k - at ≤ i → x ≡ replaced at (drop (at + k) d) d
-  move_done m = paste_done d (drop (at + k) d) at fits x i e within (omega (arith, count))
 
 -- Bytes put in the place of others, all within a buffer.
 module _ (at : ℕ) (new b : List ℕ) (h : at + length new ≤ length b) where

@@ -1,9 +1,11 @@
 -- Numbers read from their own bytes, and the numbers of a record each at its own place.
-use Prim.Native.Nat.{ℕ, zero, suc, ◌+◌, ◌*◌}
-use mathlib.Core.Path.{◌≡◌, refl, ap, ◌∙◌}
-use mathlib.Core.Bool.{◌&&◌}
+use Prim.Native.Nat.{ℕ, zero, suc, ◌+◌, ◌*◌, max}
+use mathlib.Core.Path.{◌≡◌, refl, sym, ap, ◌∙◌}
+use mathlib.Core.Bool.{◌&&◌, and-true, and_assoc}
 use mathlib.Core.List.{List, [], ◌∷◌}
 use native.Mathlib.Omega.{arith}
+use native.Mathlib.Numerals.{unary_clauses}
+use Rattle.std.specs.List.{fold}
 use lib.ListN.{length, get_or, take, drop}
 use lib.Seq.{drop-drop, take-add, take-nil}
 use borrow.Author.Tests.{ne_eqb}
@@ -48,6 +50,15 @@ zero_parts w v at s =
       all_append is_zero (take w (drop at s)) (take v (drop w (drop at s))),
       drop-drop w at s,
     )
+
+max_zero : (a b : ℕ) → is_zero (max a b) ≡ (is_zero a && is_zero b)
+max_zero zero b = simp unary_clauses
+max_zero (suc a) b = rw (ne_eqb (max (suc a) b) 0 (λ e. omega arith), ne_eqb (suc a) 0 (λ e. omega arith))
+
+-- the highest of a number and others is zero where all are
+pub highest_zero : (h : ℕ) (s : List ℕ) → is_zero (fold max h s) ≡ (is_zero h && all is_zero s)
+highest_zero h [] = sym (and-true (is_zero h))
+highest_zero h (x ∷ s) = rw (highest_zero (max h x) s, max_zero h x, and_assoc)
 
 -- numbers of so many bytes each, one behind the other, the first at a given place
 abbrev pub numbers_at : List ℕ → ℕ → List ℕ → List ℕ

@@ -8,6 +8,7 @@ use lib.ListN.{length, get_or, take, drop, drop_of_length-le}
 use lib.Seq.{drop-cons}
 use lib.Dec.{eqb}
 use borrow.Author.Tests.{eqb-true}
+use Rattle.std.specs.Int.{from_bool}
 use Rattle.units.specs.Lists.{in_range, or_zero, is_zero}
 use Rattle.units.proofs.Members.{Every}
 use Rattle.units.proofs.Tests.{and_true}
@@ -26,10 +27,20 @@ pub side_of_lem : (s : Side) → side_of (side_number s) ≡ s
 side_of_lem Buy = refl
 side_of_lem Sell = refl
 
--- the number of a side is a byte
+-- the numbers of a side, a kind and a setter mark are bytes
 pub side_byte : (s : Side) → side_number s % 256 ≡ side_number s
 side_byte Buy = refl
 side_byte Sell = refl
+
+pub kind_byte : (k : Kind) → kind_number k % 256 ≡ kind_number k
+kind_byte Displayed = refl
+kind_byte NonDisplayed = refl
+kind_byte (MinimumQuantity m) = refl
+kind_byte (Reserve h r) = refl
+
+pub mark_byte : (b : Bool) → or_zero b 1 % 256 ≡ from_bool b
+mark_byte true = refl
+mark_byte false = refl
 
 kind_of_lem : (k : Kind) → kind_of (kind_number k) (minimum_of k) (hidden_of k) (refresh_of k) ≡ k
 kind_of_lem Displayed = refl

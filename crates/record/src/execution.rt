@@ -18,14 +18,13 @@ pub struct Execution {
 }
 
 // The execution's 16 bytes.
+#[tactic(auto, unfolding(crate::specs::Codec::encode))]
 pub fn bytes_of(execution: Execution) -> [u8; 16]
     ensures { result ≡ encode_execution execution }
 {
-    let price = execution.price;
-    let shares = execution.shares;
     let n = bytes::u32_bytes(execution.number);
-    let p = bytes::u32_bytes(price.0);
-    let s = bytes::u32_bytes(shares.0);
+    let p = bytes::u32_bytes(execution.price.0);
+    let s = bytes::u32_bytes(execution.shares.0);
     [
         0x45,
         0x58,

@@ -1,6 +1,5 @@
 // The record of an order in the new form, 40 bytes, both ways, and what makes one sound.
 ghost use Rattle.std.specs.Prelude.{◌≡◌, length};
-ghost use Rattle.units.specs.Lists.{or_zero};
 ghost use Rattle.orders.specs.Order.{interest, settled, is_resting};
 ghost use Rattle.record.specs.Codec.{decode, has_mark};
 ghost use Rattle.record.specs.Record.{new_form, numbers_of, encode_order, decode_order, record_sound};
@@ -12,7 +11,7 @@ use orders::order::{Kind, Order, Side};
 use orders::range;
 use units::{Price, Shares};
 
-// The numbers of a record that say its order.
+// The numbers of a record that say its order. Numbers, and no enums: loops over many records test them without a branch.
 #[derive(Clone, Copy)]
 pub struct Numbers {
     pub side: u32,
@@ -28,36 +27,34 @@ pub struct Numbers {
 }
 
 // They are read each at its own place.
+#[tactic(auto, using(crate::proofs::Reading::from_one, crate::proofs::Reading::decode_at))]
 pub fn numbers_of(rec: &[u8]) -> Numbers
     requires { length rec.now ≡ 40 }
     ensures { result ≡ named_numbers (decode new_form.layout rec.now) }
 {
-    let side = rec[2];
-    let kind = rec[3];
-    let setter = rec[20];
-    let security = rec[21];
     Numbers {
-        side: bytes::wide(side),
-        kind: bytes::wide(kind),
+        side: u32::from(rec[2]),
+        kind: u32::from(rec[3]),
         number: bytes::read_u32(rec, 4),
         price: bytes::read_u32(rec, 8),
         size: bytes::read_u32(rec, 12),
         minimum: bytes::read_u32(rec, 16),
-        setter: bytes::wide(setter),
+        setter: u32::from(rec[20]),
         hidden: bytes::read_u32(rec, 32),
         refresh: bytes::read_u32(rec, 36),
-        security: bytes::wide(security),
+        security: u32::from(rec[21]),
     }
 }
 
 // The order that a record says.
+#[tactic(auto, unfolding(crate::specs::Record::order_of))]
 pub fn read(rec: &[u8]) -> Order
     requires { length rec.now ≡ 40 }
     ensures { result ≡ decode_order new_form rec.now }
 {
     let n = numbers_of(rec);
     Order {
-        side: Side::of(n.side),
+        side: Side::from(n.side),
         kind: Kind::of(n.kind, n.minimum, n.hidden, n.refresh),
         number: n.number,
         price: Price(n.price),
@@ -88,6 +85,7 @@ fn has_mark(rec: &[u8]) -> bool
 // Whether the record is sound: the mark, each number in its range, a setter mark on kinds 1 and 4 alone, zeros in bytes 22 to 31, and
 // hidden shares and a refresh size on kind 4 alone. All is read by four bytes, so that the compiler can test several records at once: side and
 // kind are among the first four, the setter mark is the lowest of four bytes, and the others of these are the security with two zeros behind it.
+#[tactic(auto, using(crate::proofs::Fours::sound_by_fours))]
 pub fn is_sound(rec: &[u8]) -> bool
     requires { length rec.now ≡ 40 }
     ensures { result ≡ record_sound new_form rec.now }
@@ -111,26 +109,19 @@ pub fn is_sound(rec: &[u8]) -> bool
         & range::reserve_in_range(kind, bytes::read_u32(rec, 32), bytes::read_u32(rec, 36))
 }
 
-// A setter mark as a number.
-fn mark(setter: bool) -> u8
-    ensures { result ≡ or_zero setter 1 }
-{
-    if setter { 1 } else { 0 }
-}
-
 // The record of an order.
+#[tactic(auto, using(crate::proofs::Rows::side_byte, crate::proofs::Rows::kind_byte, crate::proofs::Rows::mark_byte), unfolding(crate::specs::Codec::encode, crate::specs::Record::numbers_of))]
 pub fn bytes_of(order: Order) -> [u8; 40]
     ensures { result ≡ encode_order new_form order }
 {
-    let side = order.side;
     let kind = order.kind;
-    let s = side.number();
+    let s = u8::from(order.side);
     let k = kind.number();
     let n = bytes::u32_bytes(order.number);
     let p = bytes::u32_bytes(order.price.0);
     let z = bytes::u32_bytes(order.size.0);
     let m = bytes::u32_bytes(kind.minimum().0);
-    let f = mark(order.setter);
+    let f = u8::from(order.setter);
     let h = bytes::u32_bytes(kind.hidden().0);
     let r = bytes::u32_bytes(kind.refresh().0);
     let c = bytes::u32_bytes(order.security);

@@ -14,6 +14,7 @@ ghost use Rattle.ladder.specs.Rows.{rows_of};
 ghost use Rattle.ladder.specs.Depth.{Tells};
 ghost use Rattle.conversion.specs.Conversion.{to_new_call, to_old_call};
 
+use book::refusal::number_in;
 use book::{Checked, Found};
 use entry::admission::AddRequest;
 use matching::{TakeRequest, Taken};
@@ -29,7 +30,7 @@ pub fn ruhvasto_version() -> u32
 pub fn ruhvasto_check(book: &[u8], security: u32) -> Checked
     ensures { result ≡ check_call security book.now }
 {
-    lookup::check(book, security)
+    lookup::check(book, security).into()
 }
 
 // Where in the book the security's order of this number lies. A reference can't be returned to C.
@@ -37,7 +38,7 @@ pub fn ruhvasto_find(book: &[u8], security: u32, number: u32) -> Found
     ensures answer { result ≡ find_call security number book.now }
     ensures within { result.start + result.length ≤ length book.now }
 {
-    lookup::locate(book, security, number)
+    lookup::locate(book, security, number).into()
 }
 
 // An order is put last in the book.
@@ -46,7 +47,7 @@ pub fn ruhvasto_add(book: &mut [u8], request: AddRequest) -> u32
     ensures bytes { book.new ≡ (add_call request book.old).book }
     ensures kept_sound { result ≡ 0 → sound book.new ≡ true }
 {
-    entry::add(book, request)
+    number_in(entry::add(book, request))
 }
 
 // The security's order of this number loses shares; without any it leaves the book.
@@ -55,7 +56,7 @@ pub fn ruhvasto_reduce(book: &mut [u8], security: u32, number: u32, shares: u32)
     ensures bytes { book.new ≡ (reduce_call security number shares book.old).book }
     ensures kept_sound { result ≡ 0 → sound book.new ≡ true }
 {
-    entry::reduce(book, security, number, shares)
+    number_in(entry::reduce(book, security, number, shares))
 }
 
 // An incoming order takes shares from the orders of the book. Its executions go into the second buffer, from its start.
@@ -66,7 +67,7 @@ pub fn ruhvasto_take(book: &mut [u8], executions: &mut [u8], request: TakeReques
     ensures fair { FairTake request book.old (record { taken = result; book = book.new; executions = executions.new }) }
     ensures kept_sound { result.refusal ≡ 0 → sound book.new ≡ true }
 {
-    take::take(book, executions, request)
+    take::take(book, executions, request).into()
 }
 
 // The ladder of the security in the book, all its bytes, whatever stood there.
@@ -75,7 +76,7 @@ pub fn ruhvasto_ladder(book: &[u8], ladder: &mut [u8], security: u32) -> u32
     ensures ladder_bytes { ladder.new ≡ (ladder_call security book.now ladder.old).ladder }
     ensures tells { result ≡ 0 → Tells (orders_for security book.now) ladder.new (rows_of (orders_for security book.now)) }
 {
-    ladder::ladder(book, ladder, security)
+    number_in(ladder::ladder(book, ladder, security))
 }
 
 // An order is put last in the book, and the ladder is kept.
@@ -89,7 +90,7 @@ pub fn ruhvasto_add_ladder(book: &mut [u8], ladder: &mut [u8], request: AddReque
     ensures as_plain { ladder.old ≡ made_of request.security book.old
         → (result ≡ (add_call request book.old).refusal) × (book.new ≡ (add_call request book.old).book) }
 {
-    ladder::add(book, ladder, request)
+    number_in(ladder::add(book, ladder, request))
 }
 
 // The security's order of this number loses shares, and the ladder is kept.
@@ -109,7 +110,7 @@ pub fn ruhvasto_reduce_ladder(
     ensures as_plain { ladder.old ≡ made_of security book.old
         → (result ≡ (reduce_call security number shares book.old).refusal) × (book.new ≡ (reduce_call security number shares book.old).book) }
 {
-    ladder::reduce(book, ladder, security, number, shares)
+    number_in(ladder::reduce(book, ladder, security, number, shares))
 }
 
 // An incoming order takes shares from the orders of the book, and the ladder is kept.
@@ -133,7 +134,7 @@ pub fn ruhvasto_take_ladder(
         × (book.new ≡ (take_call request book.old executions.old).book)
         × (executions.new ≡ (take_call request book.old executions.old).executions) }
 {
-    ladder::take(book, executions, ladder, request)
+    ladder::take(book, executions, ladder, request).into()
 }
 
 // An old book goes to the target in the new form.
@@ -143,7 +144,7 @@ pub fn ruhvasto_to_new(old: &[u8], target: &mut [u8]) -> u32
     ensures made_sound { result ≡ 0 → sound_in new_form target.new ≡ true }
     ensures same_orders { result ≡ 0 → orders_in new_form target.new ≡ orders_in old_form old.now }
 {
-    conversion::to_new(old, target)
+    number_in(conversion::to_new(old, target))
 }
 
 // A book goes to the target in the old form.
@@ -153,5 +154,5 @@ pub fn ruhvasto_to_old(book: &[u8], target: &mut [u8]) -> u32
     ensures made_sound { result ≡ 0 → sound_in old_form target.new ≡ true }
     ensures same_orders { result ≡ 0 → orders_in old_form target.new ≡ orders_in new_form book.now }
 {
-    conversion::to_old(book, target)
+    number_in(conversion::to_old(book, target))
 }

@@ -1,4 +1,5 @@
-mod Numbers
+mod Digits
 mod Cutting
+mod Splitting
 mod Forms
 mod Commands

@@ -1,6 +1,7 @@
 -- Text: its lines, and the fields of a line. A byte is a number below 256.
 use Rattle.std.specs.Prelude.{ℕ, suc, ◌+◌, ◌-◌, ◌≤◌, ◌≡◌, cond, List, [], ◌∷◌, eqb, length, take, drop}
 use Rattle.units.specs.Text.{line_feed, space}
+use Rattle.script.specs.declared.text.Lines.{Lines}
 
 -- a byte in front of the first part; a part of its own where there is none
 abbrev pub prepend : ℕ → List (List ℕ) → List (List ℕ)
@@ -15,6 +16,10 @@ cut_at b end (x ∷ xs) = cond (eqb x b) ([] ∷ cut_at b end xs) (prepend x (cu
 -- A line ends at a line feed; the last may lack it, and the text's end right after one starts no line. An empty text has none.
 abbrev pub lines_of : List ℕ → List (List ℕ)
 lines_of = cut_at line_feed []
+
+-- the lines that are still to come
+abbrev pub lines_left : Lines → List (List ℕ)
+lines_left s = lines_of s.rest.now
 
 -- from a place of a text on, the first line ends here, and the others are those behind its line feed
 pub record FirstLine (text : List ℕ) (at end : ℕ) : Type 0 where

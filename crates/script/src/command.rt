@@ -1,12 +1,13 @@
 // Which command a line is.
-ghost use Rattle.std.specs.Prelude.{◌≡◌, false, cond, ◌≤◌, take};
+ghost use Rattle.std.specs.Prelude.{◌≡◌, cond, true, false, length, MatchOption};
 ghost use Rattle.units.specs.Lists.{in_range};
-ghost use Rattle.script.specs.Command.{Reads, command_of, choose_form, add_form, reduce_form, take_form};
+ghost use Rattle.script.specs.Text.{fields_of};
+ghost use Rattle.script.specs.Command.{fits, values_of, readings, command_of};
 
-use crate::field::{Field, Value};
-use crate::{field, text};
+use crate::field::Field;
+use crate::field::Field::{Kind, Letter, Number, Side};
 
-// A command to a book, its numbers as they stand in the line; Nothing is what no command is.
+// A command to a book, its numbers as they stand in the line; side and kind are the C interface's, which take and add are given.
 #[derive(Clone, Copy)]
 pub enum Command {
     Choose(u32),
@@ -27,162 +28,77 @@ pub enum Command {
         limit: u32,
         size: u32,
     },
-    Nothing,
-}
-
-// Whether the fields of a line are those of a form, and what each stands for.
-#[derive(Clone, Copy)]
-pub struct Readings {
-    pub fits: bool,
-    pub values: [u32; 6],
-}
-
-fn no_readings() -> Readings
-    ensures { result.fits ≡ false }
-{
-    Readings {
-        fits: false,
-        values: [0; 6],
-    }
-}
-
-// The fields of a line, read as the first n of a form.
-fn read_as(form: [Field; 6], n: usize, line: &[u8]) -> Readings
-    requires { n ≤ 6 }
-    ensures { Reads (take n form) line.now result }
-{
-    let mut values = [0; 6];
-    let mut open = true;
-    let mut at = 0;
-    let mut i = 0;
-    while i < n {
-        if !open {
-            return no_readings();
-        }
-        let end = text::end_of(line, at, b' ');
-        let place = form[i];
-        let Value::Of(value) = field::read(place, &line[at..end]) else {
-            return no_readings();
-        };
-        values[i] = value;
-        open = end < line.len();
-        at = text::behind(end, line.len());
-        i += 1;
-    }
-    Readings {
-        fits: !open,
-        values,
-    }
 }
 
 // A n sets the algorithm.
-fn read_choice(line: &[u8]) -> Readings
-    ensures { Reads choose_form line.now result }
-{
-    let form = [
-        Field::Letter(b'A'),
-        Field::Number,
-        Field::Number,
-        Field::Number,
-        Field::Number,
-        Field::Number,
-    ];
-    read_as(form, 2, line)
-}
+const CHOOSE: [Field; 2] = [Letter(b'A'), Number];
 
 // B or S, number, D, H or M, price, size, minimum adds.
-fn read_entry(line: &[u8]) -> Readings
-    ensures { Reads add_form line.now result }
-{
-    let form = [
-        Field::Side,
-        Field::Number,
-        Field::Kind,
-        Field::Number,
-        Field::Number,
-        Field::Number,
-    ];
-    read_as(form, 6, line)
-}
+const ADD: [Field; 6] = [Side, Number, Kind, Number, Number, Number];
 
 // X number shares reduces.
-fn read_reduction(line: &[u8]) -> Readings
-    ensures { Reads reduce_form line.now result }
-{
-    let form = [
-        Field::Letter(b'X'),
-        Field::Number,
-        Field::Number,
-        Field::Number,
-        Field::Number,
-        Field::Number,
-    ];
-    read_as(form, 3, line)
-}
+const REDUCE: [Field; 3] = [Letter(b'X'), Number, Number];
 
 // T, B or S, limit, size takes.
-fn read_taking(line: &[u8]) -> Readings
-    ensures { Reads take_form line.now result }
+const TAKE: [Field; 4] = [Letter(b'T'), Side, Number, Number];
+
+// What the fields of a line stand for goes into values, where they are those of a form. The values are lent: the checker fails at a loop
+// beside a closure in a function with a const parameter.
+fn read_fields(form: &[Field], line: &[u8], values: &mut [u32]) -> Option<()>
+    requires { length values.old ≡ length form.now }
+    ensures { MatchOption result (fits form.now (fields_of line.now) ≡ false)
+        (λ _. (fits form.now (fields_of line.now) ≡ true) × (values.new ≡ values_of form.now (fields_of line.now))) }
 {
-    let form = [
-        Field::Letter(b'T'),
-        Field::Side,
-        Field::Number,
-        Field::Number,
-        Field::Number,
-        Field::Number,
-    ];
-    read_as(form, 4, line)
+    let mut fields = line.split(|b| *b == b' ');
+    for (i, place) in form.iter().enumerate() {
+        values[i] = place.read(fields.next()?)?;
+    }
+    match fields.next() {
+        None => Some(()),
+        Some(_) => None,
+    }
+}
+
+// What the fields of a line stand for, where they are those of a form.
+fn read_as<const N: usize>(form: [Field; N], line: &[u8]) -> Option<[u32; N]>
+    ensures { result ≡ readings form.entry (fields_of line.now) }
+{
+    let mut values = [0; N];
+    read_fields(&form, line, &mut values)?;
+    Some(values)
 }
 
 // The algorithm is one of 1 to 3.
-fn choice(n: u32) -> Command
-    ensures { result ≡ cond (in_range 1 3 n) (Command.Choose n) Command.Nothing }
+fn choice(n: u32) -> Option<Command>
+    ensures { result ≡ cond (in_range 1 3 n) (Some (Command.Choose n)) None }
 {
-    if units::in_range(1, 3, n) {
-        Command::Choose(n)
-    } else {
-        Command::Nothing
-    }
+    units::in_range(1, 3, n).then_some(Command::Choose(n))
 }
 
 // The command that a line is, whatever its bytes are.
-pub fn command_of(line: &[u8]) -> Command
+#[tactic(auto, using(crate::proofs::Commands::taken, crate::proofs::Commands::passed), unfolding(crate::specs::Command::command_of))]
+pub fn command_of(line: &[u8]) -> Option<Command>
     ensures { result ≡ command_of line.now }
 {
-    let r = read_choice(line);
-    let v = r.values;
-    if r.fits {
-        return choice(v[1]);
+    if let Some(values) = read_as(CHOOSE, line) {
+        let [_, algorithm] = values;
+        return choice(algorithm);
     }
-    let r = read_entry(line);
-    let v = r.values;
-    if r.fits {
-        return Command::Add {
-            side: v[0],
-            kind: v[2],
-            number: v[1],
-            price: v[3],
-            size: v[4],
-            minimum: v[5],
-        };
+    if let Some(values) = read_as(ADD, line) {
+        let [side, number, kind, price, size, minimum] = values;
+        return Some(Command::Add {
+            side,
+            kind,
+            number,
+            price,
+            size,
+            minimum,
+        });
     }
-    let r = read_reduction(line);
-    let v = r.values;
-    if r.fits {
-        return Command::Reduce {
-            number: v[1],
-            shares: v[2],
-        };
+    if let Some(values) = read_as(REDUCE, line) {
+        let [_, number, shares] = values;
+        return Some(Command::Reduce { number, shares });
     }
-    let r = read_taking(line);
-    let v = r.values;
-    if r.fits {
-        return Command::Take {
-            side: v[1],
-            limit: v[2],
-            size: v[3],
-        };
-    }
-    Command::Nothing
+    let [_, side, limit, size] = read_as(TAKE, line)?;
+    Some(Command::Take { side, limit, size })
 }

@@ -28,16 +28,15 @@ fn execution_of(book: &[u8], fill: u64) -> Execution
 }
 
 // The executions of the fills go into a buffer, from its start.
+#[tactic(auto, using(crate::proofs::Writing::writing_done))]
 pub(crate) fn write(book: &[u8], fills: &[u64], executions: &mut [u8])
     requires { (sound book.now ≡ true)
         × Every (λ k. place_in k < length (orders_of book.now)) fills.now
         × (16 * length fills.now ≤ length executions.old) }
     ensures { executions.new ≡ written (map (execution_of (order_at book.now)) fills.now) executions.old }
 {
-    let mut k = 0;
-    while k < fills.len() {
-        let bytes = execution::bytes_of(execution_of(book, fills[k]));
+    for (k, fill) in fills.iter().enumerate() {
+        let bytes = execution::bytes_of(execution_of(book, *fill));
         bytes::put(executions, EXECUTION_BYTES * k, &bytes);
-        k += 1;
     }
 }

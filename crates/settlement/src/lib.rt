@@ -4,17 +4,19 @@
 mod executions;
 pub mod settling;
 
-ghost use Rattle.std.specs.Prelude.{◌≡◌, true, map, ◌*◌, ◌≤◌, ◌<◌, length};
+ghost use Rattle.std.specs.Prelude.{◌≡◌, true, map, ◌*◌, ◌≤◌, ◌<◌, Ok, Err, length};
 ghost use Rattle.units.specs.Lists.{filter, zip_with};
 ghost use Rattle.units.proofs.Members.{Every};
 ghost use Rattle.orders.specs.Order.{settled, is_resting};
 ghost use Rattle.orders.specs.Losses.{losses_in};
+ghost use Rattle.book.specs.declared.refusal.Refusal.TheVariants.{SmallBuffer};
 ghost use Rattle.book.specs.Sound.{sound, orders_of, order_at, book_of, capacity_of};
 ghost use Rattle.matching.specs.TakeCall.{written};
 ghost use Rattle.parts.specs.Key.{place_in};
 ghost use Rattle.parts.specs.Execution.{execution_of};
 
-use matching::Taken;
+use book::refusal::Refusal;
+use matching::Filled;
 use record::execution::EXECUTION_BYTES;
 use units::Shares;
 
@@ -28,7 +30,7 @@ pub fn commit(
     shown: &[u32],
     hidden: &[u32],
     left: Shares,
-) -> Taken
+) -> Result<Filled, Refusal>
     requires { (sound book.old ≡ true)
         × (n ≡ length (orders_of book.old))
         × Every (λ k. place_in k < length (orders_of book.old)) fills.now
@@ -36,28 +38,23 @@ pub fn commit(
         × (n ≤ length shown.now)
         × (n ≤ length hidden.now) }
     ensures refused { length executions.old < 16 * length fills.now
-        → (result ≡ record { refusal = 8; count = 0; left = 0 })
+        → (result ≡ Err SmallBuffer)
         × (book.new ≡ book.old)
         × (executions.new ≡ executions.old) }
     ensures made { 16 * length fills.now ≤ length executions.old
-        → (result ≡ record { refusal = 0; count = length fills.now; left = left.0 })
+        → (result ≡ Ok (record { count = length fills.now; left = left }))
         × (book.new
         ≡ book_of (capacity_of book.old) (filter is_resting (zip_with settled (losses_in n shown.now hidden.now) (orders_of book.old))))
         × (executions.new ≡ written (map (execution_of (order_at book.old)) fills.now) executions.old) }
 {
     let count = fills.len();
     if executions.len() / EXECUTION_BYTES < count {
-        return Taken {
-            refusal: 8,
-            count: 0,
-            left: 0,
-        };
+        return Err(Refusal::SmallBuffer);
     }
     executions::write(book, fills, executions);
     settling::settle(book, n, shown, hidden);
-    Taken {
-        refusal: 0,
+    Ok(Filled {
         count: count as u32,
-        left: left.0,
-    }
+        left,
+    })
 }

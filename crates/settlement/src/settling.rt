@@ -22,6 +22,7 @@ fn any_lost(shown: Shares, hidden: Shares) -> bool
 }
 
 // Whether the order of a sound record still rests after it lost shares.
+#[tactic(auto, using(crate::proofs::Losing::rests_same, record::proofs::Records::new_numbers))]
 fn stays(book: &[u8], at: usize, shown: Shares, hidden: Shares) -> bool
     requires { RecordAt book.now at }
     ensures { result ≡ is_resting (left_at book.now at shown.0 hidden.0) }
@@ -42,6 +43,7 @@ fn rewrite(book: &mut [u8], from: usize, to: usize, shown: Shares, hidden: Share
 }
 
 // The order of a sound record loses shares where it stands. Where it loses none, nothing is written.
+#[tactic(auto, using(crate::proofs::Losing::bytes_same, record::proofs::Numbers::are_bytes))]
 fn lose(book: &mut [u8], at: usize, shown: Shares, hidden: Shares)
     requires { RecordAt book.old at }
     ensures { book.new ≡ replaced at (encode_order form (left_at book.old at shown.0 hidden.0)) book.old }
@@ -52,6 +54,7 @@ fn lose(book: &mut [u8], at: usize, shown: Shares, hidden: Shares)
 }
 
 // A sound record moves to another place, and its order loses shares on the way.
+#[tactic(auto, using(crate::proofs::Losing::record_same, record::proofs::Numbers::are_bytes))]
 fn move_up(book: &mut [u8], from: usize, to: usize, shown: Shares, hidden: Shares)
     requires { RecordAt book.old from × (to + 40 ≤ length book.old) }
     ensures { book.new ≡ replaced to (encode_order form (left_at book.old from shown.0 hidden.0)) book.old }
@@ -73,21 +76,17 @@ fn close_gaps(part: &mut [u8], n: usize, shown: &[u32], hidden: &[u32]) -> usize
         ≡ closed_up n (filter is_resting (left_in n shown.now hidden.now part.old)) part.old }
     ensures moves { result ≡ moves_of (left_in n shown.now hidden.now part.old) }
 {
-    let mut i = 1;
     let mut kept = 0;
-    let mut moves = 0;
-    while i < n {
+    for i in 1..n {
         let s = Shares(shown[i]);
         let h = Shares(hidden[i]);
         if stays(part, RECORD_BYTES * i, s, h) {
             move_up(part, RECORD_BYTES * i, RECORD_BYTES * kept, s, h);
-            moves += 1;
             kept += 1;
         }
-        i += 1;
     }
     bytes::clear(part, RECORD_BYTES * kept, RECORD_BYTES * (n - kept));
-    moves
+    kept
 }
 
 // Each of the n orders loses its shares: one before the first that leaves where it stands, and from there on the gaps are closed. Gives the
@@ -102,8 +101,7 @@ pub fn settle(book: &mut [u8], n: usize, shown: &[u32], hidden: &[u32]) -> usize
     ensures moves { result ≡ moves_of (zip_with settled (losses_in n shown.now hidden.now) (orders_of book.old)) }
     ensures places { result ≡ displaced (orders_of book.old) (orders_of book.new) }
 {
-    let mut i = 0;
-    while i < n {
+    for i in 0..n {
         let at = RECORD_BYTES * i;
         let s = Shares(shown[i]);
         let h = Shares(hidden[i]);
@@ -111,7 +109,6 @@ pub fn settle(book: &mut [u8], n: usize, shown: &[u32], hidden: &[u32]) -> usize
             return close_gaps(&mut book[at..], n - i, &shown[i..], &hidden[i..]);
         }
         lose(book, at, s, h);
-        i += 1;
     }
     0
 }

@@ -68,9 +68,9 @@ module _ (q : TakeRequest) (s x : List ℕ) (e : request_in_range q ≡ true) (f
         long shown = omega (arith, length-replicate {A = ℕ} (length os) 0)
         long hidden = omega (arith, length-replicate {A = ℕ} (length os) 0)
 
-    pub idle : keys ≡ [] → Answers q s x (record { refusal = 0; count = 0; left = q.size }) s x
+    pub idle : keys ≡ [] → Answers q s x (record { refusal = 0; count = 0; left = order.size.0 }) s x
     idle z =
         let d = idle_decided z in
-        accepted q s x e f d.count (sym (ap (λ (o : Incoming). o.size.0) u) ∙ d.left)
+        accepted q s x e f d.count d.left
         (sym (book_orders s f b) ∙ ap (book_of (capacity_of s)) (sym (nothing_lost (length os) os (orders_sound s f).each refl) ∙ d.orders (length os) refl))
         (sym (none_written x) ∙ d.written x) (omega arith)

@@ -1,15 +1,18 @@
 // The call take. It decides first, from a book that it only reads and into memory of its own, and then writes what was decided.
 #![tactic(auto)]
 
-ghost use Rattle.std.specs.Prelude.{◌≡◌, true, ℕ, ◌≤◌, get_or};
+ghost use Rattle.std.specs.Prelude.{◌≡◌, true, ◌*◌, ◌≤◌};
 ghost use Rattle.book.specs.Sound.{sound};
+ghost use Rattle.book.specs.Answer.{number_in};
+ghost use Rattle.matching.specs.Answer.{taken};
 ghost use Rattle.matching.specs.TakeCall.{request_in_range, incoming_of, take_call};
 ghost use Rattle.matching.specs.Fairness.{FairTake};
 ghost use Rattle.take.specs.Answers.{Answers};
 ghost use Rattle.take.specs.Memory.{Sound, Memory};
 
+use book::refusal::Refusal;
 use matching::incoming::Incoming;
-use matching::{Algorithm, TakeRequest, Taken};
+use matching::{Algorithm, Filled, TakeRequest};
 use orders::order::{Side, Taker};
 use orders::range;
 use units::{Price, Shares};
@@ -30,24 +33,13 @@ fn incoming_of(q: TakeRequest) -> Incoming
     ensures { result ≡ incoming_of q }
 {
     let taker = Taker {
-        side: Side::of(q.side),
+        side: Side::from(q.side),
         limit: Price(q.limit),
         security: q.security,
     };
     Incoming {
         taker,
         size: Shares(q.size),
-    }
-}
-
-// A refused take's answer.
-pub fn refused(refusal: u32) -> Taken
-    ensures { result ≡ record { refusal = refusal; count = 0; left = 0 } }
-{
-    Taken {
-        refusal,
-        count: 0,
-        left: 0,
     }
 }
 
@@ -65,20 +57,19 @@ fn take_in(
     gets: &mut [u32],
     shown: &mut [u32],
     hidden: &mut [u32],
-) -> Taken
+) -> Result<Filled, Refusal>
     requires { Sound request book.old n × Memory n keys.old spare.old sizes.old minimums.old gets.old shown.old hidden.old }
-    ensures { Answers request book.old executions.old result book.new executions.new }
+    ensures { Answers request book.old executions.old (taken result) book.new executions.new }
 {
     let incoming = incoming_of(request);
-    let algorithm = Algorithm::of(request.algorithm);
+    let algorithm = Algorithm::from(request.algorithm);
     let lot = units::round_lot();
     let parts = parts::arrange(book, n, incoming, algorithm, lot, keys, spare);
     if parts == 0 {
-        return Taken {
-            refusal: 0,
+        return Ok(Filled {
             count: 0,
-            left: request.size,
-        };
+            left: incoming.size,
+        });
     }
     let reached = allocation::allocate(
         book,
@@ -105,66 +96,23 @@ fn take_in(
     )
 }
 
-// Memory for a few parts, and for as many as a book can have: two for each order.
-fn few_keys() -> [u64; 64] {
-    [0; 64]
-}
-
-fn all_keys() -> [u64; 512] {
-    [0; 512]
-}
-
-fn few_shares() -> [u32; 32]
-    ensures { (i : ℕ) → get_or result i 0 ≡ 0 }
+// The same with memory for so many orders, two keys for each.
+fn take_with<const ORDERS: usize, const KEYS: usize>(
+    book: &mut [u8],
+    executions: &mut [u8],
+    n: usize,
+    request: TakeRequest,
+) -> Result<Filled, Refusal>
+    requires { Sound request book.old n × (n ≤ ORDERS) × (ORDERS ≤ 256) × (KEYS ≡ 2 * ORDERS) }
+    ensures { Answers request book.old executions.old (taken result) book.new executions.new }
 {
-    [0; 32]
-}
-
-fn all_shares() -> [u32; 256]
-    ensures { (i : ℕ) → get_or result i 0 ≡ 0 }
-{
-    [0; 256]
-}
-
-// A take from a book of a few orders: clearing memory for all would cost more than the take.
-fn small(book: &mut [u8], executions: &mut [u8], n: usize, request: TakeRequest) -> Taken
-    requires { Sound request book.old n × (n ≤ 32) }
-    ensures { Answers request book.old executions.old result book.new executions.new }
-{
-    let mut keys = few_keys();
-    let mut spare = few_keys();
-    let mut sizes = few_shares();
-    let mut minimums = few_shares();
-    let mut gets = few_shares();
-    let mut shown = few_shares();
-    let mut hidden = few_shares();
-    take_in(
-        book,
-        executions,
-        n,
-        request,
-        &mut keys,
-        &mut spare,
-        &mut sizes,
-        &mut minimums,
-        &mut gets,
-        &mut shown,
-        &mut hidden,
-    )
-}
-
-// A take from a book of any number of orders.
-fn large(book: &mut [u8], executions: &mut [u8], n: usize, request: TakeRequest) -> Taken
-    requires { Sound request book.old n × (n ≤ 256) }
-    ensures { Answers request book.old executions.old result book.new executions.new }
-{
-    let mut keys = all_keys();
-    let mut spare = all_keys();
-    let mut sizes = all_shares();
-    let mut minimums = all_shares();
-    let mut gets = all_shares();
-    let mut shown = all_shares();
-    let mut hidden = all_shares();
+    let mut keys = [0; KEYS];
+    let mut spare = [0; KEYS];
+    let mut sizes = [0; ORDERS];
+    let mut minimums = [0; ORDERS];
+    let mut gets = [0; ORDERS];
+    let mut shown = [0; ORDERS];
+    let mut hidden = [0; ORDERS];
     take_in(
         book,
         executions,
@@ -181,33 +129,35 @@ fn large(book: &mut [u8], executions: &mut [u8], n: usize, request: TakeRequest)
 }
 
 // A take that is checked: its numbers are in range, and the book is sound and n of its records are in use. It can only be refused for want
-// of room for its executions.
-pub fn take_checked(book: &mut [u8], executions: &mut [u8], n: usize, request: TakeRequest) -> Taken
+// of room for its executions. A book of a few orders has less memory: to clear that for all would cost more than the take.
+pub fn take_checked(
+    book: &mut [u8],
+    executions: &mut [u8],
+    n: usize,
+    request: TakeRequest,
+) -> Result<Filled, Refusal>
     requires { Sound request book.old n }
-    ensures { Answers request book.old executions.old result book.new executions.new }
+    ensures { Answers request book.old executions.old (taken result) book.new executions.new }
 {
     if n <= 32 {
-        return small(book, executions, n, request);
+        take_with::<32, 64>(book, executions, n, request)
+    } else {
+        take_with::<256, 512>(book, executions, n, request)
     }
-    large(book, executions, n, request)
 }
 
 // An incoming order takes shares from the orders of the book. Its executions go into the second buffer, from its start. The numbers may
 // have any value.
-pub fn take(book: &mut [u8], executions: &mut [u8], request: TakeRequest) -> Taken
-    ensures taken { result ≡ (take_call request book.old executions.old).taken }
+pub fn take(book: &mut [u8], executions: &mut [u8], request: TakeRequest) -> Result<Filled, Refusal>
+    ensures taken { taken result ≡ (take_call request book.old executions.old).taken }
     ensures book_bytes { book.new ≡ (take_call request book.old executions.old).book }
     ensures execution_bytes { executions.new ≡ (take_call request book.old executions.old).executions }
-    ensures fair { FairTake request book.old (record { taken = result; book = book.new; executions = executions.new }) }
-    ensures kept_sound { result.refusal ≡ 0 → sound book.new ≡ true }
+    ensures fair { FairTake request book.old (record { taken = taken result; book = book.new; executions = executions.new }) }
+    ensures kept_sound { number_in result ≡ 0 → sound book.new ≡ true }
 {
     if !in_range(request) {
-        return refused(1);
+        return Err(Refusal::OutOfRange);
     }
-    let occupancy = lookup::occupancy(book);
-    let refusal = occupancy.refusal;
-    if refusal != 0 {
-        return refused(refusal);
-    }
-    take_checked(book, executions, occupancy.records, request)
+    let n = lookup::occupancy(book)?;
+    take_checked(book, executions, n, request)
 }

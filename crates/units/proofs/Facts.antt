@@ -1,11 +1,15 @@
 -- Tests as facts: long chains of tests, ranges of numbers, and lists with the same numbers.
 use Rattle.units.specs.declared.Shares.{Shares}
-use Prim.Native.Nat.{ℕ, ◌≤◌}
+use Prim.Native.Nat.{ℕ, ◌≤◌, ◌<◌}
 use mathlib.Core.Path.{◌≡◌, refl, sym, ap, ◌∙◌}
 use mathlib.Core.Bool.{Bool, true, false, ◌&&◌, and_assoc, false≢true}
 use mathlib.Core.List.{List, [], ◌∷◌}
-use lib.Dec.{leb, eqb}
-use borrow.Author.Tests.{leb-true, le-leb, eqb-true, eq-eqb}
+use native.Mathlib.Omega.{arith}
+use lib.Dec.{leb, ltb, eqb}
+use borrow.Author.Tests.{leb-true, le-leb, lt-leb, lt-ltb, le-ltb, eqb-true, eq-eqb}
+use Rattle.std.proofs.Common.{Ordering, Less, Equal, Greater, is_le, is_lt, nat_cmp}
+use Rattle.std.specs.Ordering.{MatchOrdering}
+use Rattle.std.specs.Cmp.{ranks}
 use Rattle.units.specs.Lists.{all, in_range, same_numbers}
 use Rattle.units.proofs.Tests.{and_true, true_and}
 use Rattle.units.proofs.Members.{Every}
@@ -71,3 +75,21 @@ numbers_same (x ∷ s) (y ∷ t) e =
 -- a count of shares is its number
 pub shares_are : (a : Shares) {n : ℕ} → a.0 ≡ n → a ≡ record { 0 = n }
 shares_are a e = ap (λ (n : ℕ). record { 0 = n }) e
+
+-- The library's comparisons of numbers as the tests of the definitions.
+module _ (a b : ℕ) where
+  pub at_most : is_le (nat_cmp a b) ≡ leb a b
+  at_most = go (nat_cmp a b) (ranks a b)
+    where
+      go : (o : Ordering) → MatchOrdering o (a < b) (a ≡ b) (b < a) → is_le o ≡ leb a b
+      go Less h = sym (le-leb a b (omega arith))
+      go Equal h = sym (le-leb a b (omega arith))
+      go Greater h = sym (lt-leb a b h)
+
+  pub below : is_lt (nat_cmp a b) ≡ ltb a b
+  below = go (nat_cmp a b) (ranks a b)
+    where
+      go : (o : Ordering) → MatchOrdering o (a < b) (a ≡ b) (b < a) → is_lt o ≡ ltb a b
+      go Less h = sym (lt-ltb a b h)
+      go Equal h = sym (le-ltb a b (omega arith))
+      go Greater h = sym (le-ltb a b (omega arith))

@@ -2,26 +2,26 @@
 #![tactic(auto)]
 
 ghost use Rattle.std.specs.Prelude.{◌≡◌, ◌+◌, ◌-◌, ◌*◌, ◌/◌, ◌^◌, ◌≤◌, ◌<◌, min};
-ghost use Rattle.units.specs.Lists.{in_range, or_zero};
+ghost use Rattle.units.specs.Lists.{in_range};
 ghost use Rattle.units.specs.Lots.{round_lot};
 
 // A count of shares.
-#[derive(Clone, Copy)]
+#[derive(Clone, Copy, PartialEq, Eq, PartialOrd, Ord)]
 pub struct Shares(pub u32);
 
 // A count of round lots.
-#[derive(Clone, Copy)]
+#[derive(Clone, Copy, PartialEq, Eq, PartialOrd, Ord)]
 pub struct Lots(pub u32);
 
 // A price in ten-thousandths of a dollar.
-#[derive(Clone, Copy)]
+#[derive(Clone, Copy, PartialEq, Eq, PartialOrd, Ord)]
 pub struct Price(pub u32);
 
 // The smaller of two counts.
 pub fn least(a: Shares, b: Shares) -> Shares
     ensures { result.0 ≡ min a.0 b.0 }
 {
-    if a.0 <= b.0 { a } else { b }
+    a.min(b)
 }
 
 // Two counts together.
@@ -36,11 +36,7 @@ pub fn sum(a: Shares, b: Shares) -> Shares
 pub fn difference(a: Shares, b: Shares) -> Shares
     ensures { result.0 ≡ a.0 - b.0 }
 {
-    if b.0 <= a.0 {
-        Shares(a.0 - b.0)
-    } else {
-        Shares(0)
-    }
+    Shares(a.0.saturating_sub(b.0))
 }
 
 // The shares in a count of lots.
@@ -51,18 +47,11 @@ pub fn shares_of(lots: Lots, lot: Shares) -> Shares
     Shares(lots.0 * lot.0)
 }
 
-// 1 where a test holds, else 0: a factor, or a step of an index, in place of a branch.
-pub fn one_if(test: bool) -> u32
-    ensures { (result ≡ or_zero test 1) × (result ≤ 1) }
-{
-    if test { 1 } else { 0 }
-}
-
 // Whether n is one of lo .. hi.
 pub fn in_range(lo: u32, hi: u32, n: u32) -> bool
     ensures { result ≡ in_range lo hi n }
 {
-    (lo <= n) & (n <= hi)
+    (lo..=hi).contains(&n)
 }
 
 // The shares in a round lot.

@@ -15,10 +15,10 @@ pub returns-in-Lots : goal.returns-in-Lots
 returns-in-Lots c =
     rw c.in-Lots.is
     (λ ps g. c.lot_sharing.ensures ps (record { start = g.start; rising = g.rising; free = g.asked; same = g.sized })
-    ∙ ap (λ q. lot_sharing c.args.lot.0 q ps) (sym (divided_left ps g.sized c.args.left.0 c.requires.0.totals c.requires.0.within)))
+    ∙ ap (λ q. lot_sharing c.args.amounts.lot.0 q ps) (sym (divided_left ps g.sized c.args.amounts.left.0 c.requires.0.totals c.requires.0.within)))
 
 pub returns-in-Setter : goal.returns-in-Setter
 returns-in-Setter c =
     rw c.in-Setter.is
     (λ ps g. c.setter_sharing.ensures ps (record { start = g.start; rising = g.rising; free = g.asked.0; same = g.sized }) g.asked.1
-    ∙ ap (λ q. setter_sharing c.args.lot.0 q ps) (sym (divided_left ps g.sized c.args.left.0 c.requires.0.totals c.requires.0.within)))
+    ∙ ap (λ q. setter_sharing c.args.amounts.lot.0 q ps) (sym (divided_left ps g.sized c.args.amounts.left.0 c.requires.0.totals c.requires.0.within)))

@@ -1,8 +1,10 @@
 -- `ladder::reduce` meets its contract: refused before it is decided, or decided as the plain call, with the ladder kept.
-use mathlib.Core.Path.{sym, ◌∙◌}
+use mathlib.Core.Path.{refl, sym, ◌∙◌}
+use Rattle.std.proofs.lemmas.Result.{err_from_is_err_and}
+use Rattle.book.proofs.Committing.{above}
 use Rattle.ladder.specs.Ladder.{reduce_ladder_call}
 use Rattle.ladder.proofs.Keeping.{kept_accepted}
-use Rattle.ladder.proofs.Forms.{form_range, form_seen, form_made, answers}
+use Rattle.ladder.proofs.Forms.{form_range, form_seen, form_made, kept_refused, answers}
 use Rattle.ladder.proofs.EntryForms.{reduce_plain}
 use Rattle.ladder.proofs.reduce.Goals as goal
 
@@ -14,29 +16,40 @@ returns-then-not-in_range c =
     (form_range c.args.security p c.args.ladder.now (sym c.in_range.ensures ∙ c.if-not-in_range.true)) in
     record { refused = a.0; bytes = a.1.0; ladder_bytes = a.1.1.0; kept_sound = a.1.1.1.0; kept_ladder = a.1.1.1.1.0; unchanged = a.1.1.1.1.1.0; as_plain = a.1.1.1.1.1.1 }
 
-pub returns-then-refusal-ne0 : goal.returns-then-refusal-ne0
+pub returns-in_err-seen : goal.returns-in_err-seen
 unfolding reduce_ladder_call
-returns-then-refusal-ne0 c =
+returns-in_err-seen c =
+    let e = err_from_is_err_and c.from_residual.result c.from_residual.ensures.1 in
     let p = reduce_plain c.args.security c.args.number c.args.shares c.args.book.now in
     let a = answers c.args.security p c.args.ladder.now
-    (form_seen c.args.security p c.args.ladder.now (sym c.in_range.ensures ∙ c.if-not-in_range.false) _ c.see-seen.ensures c.if-refusal-ne0.true) in
-    record { refused = a.0; bytes = a.1.0; ladder_bytes = a.1.1.0; kept_sound = a.1.1.1.0; kept_ladder = a.1.1.1.1.0; unchanged = a.1.1.1.1.1.0; as_plain = a.1.1.1.1.1.1 }
+    (form_seen c.args.security p c.args.ladder.now (sym c.in_range.ensures ∙ c.if-not-in_range.false) _ c.in_err-seen.ensures (above _)) in
+    rw (e.1, e.2) (record { refused = a.0; bytes = a.1.0; ladder_bytes = a.1.1.0; kept_sound = a.1.1.1.0; kept_ladder = a.1.1.1.1.0; unchanged = a.1.1.1.1.1.0; as_plain = a.1.1.1.1.1.1 })
 
-pub reduce_checked-reduced-requires : goal.reduce_checked-reduced-requires
-reduce_checked-reduced-requires c =
-    let b = kept_accepted c.args.security c.args.book.now c.args.ladder.now _ c.see-seen.ensures c.if-refusal-ne0.false in
+pub reduce_checked-requires : goal.reduce_checked-requires
+reduce_checked-requires c =
+    let b = kept_accepted c.args.security c.args.book.now c.args.ladder.now _ c.in_ok-seen.ensures refl in
     (sym c.in_range.ensures ∙ c.if-not-in_range.false, b.is_sound, b.counted)
+
+pub returns-in_err-reduce_checked : goal.returns-in_err-reduce_checked
+unfolding reduce_ladder_call
+returns-in_err-reduce_checked c =
+    let e = err_from_is_err_and c.from_residual-in_err-reduce_checked.result c.from_residual-in_err-reduce_checked.ensures.1 in
+    let p = reduce_plain c.args.security c.args.number c.args.shares c.args.book.now in
+    let a = answers c.args.security p c.args.ladder.now
+    (form_made c.args.security p c.args.ladder.now (sym c.in_range.ensures ∙ c.if-not-in_range.false) _ c.in_ok-seen.ensures refl
+    c.in_err-reduce_checked.ensures.refused c.in_err-reduce_checked.ensures.bytes (kept_refused c.args.security _ _ _ (above _))) in
+    rw (e.1, e.2) (record { refused = a.0; bytes = a.1.0; ladder_bytes = a.1.1.0; kept_sound = a.1.1.1.0; kept_ladder = a.1.1.1.1.0; unchanged = a.1.1.1.1.1.0; as_plain = a.1.1.1.1.1.1 })
 
 pub keep-requires : goal.keep-requires
 keep-requires c =
-    let b = kept_accepted c.args.security c.args.book.now c.args.ladder.now _ c.see-seen.ensures c.if-refusal-ne0.false in
-    (c.reduce_checked-reduced.ensures.kept_sound, b.long, b.few, b.clear)
+    let b = kept_accepted c.args.security c.args.book.now c.args.ladder.now _ c.in_ok-seen.ensures refl in
+    (c.in_ok-reduce_checked.ensures.kept_sound refl, b.long, b.few, b.clear)
 
 pub returns : goal.returns
 unfolding reduce_ladder_call
 returns c =
     let p = reduce_plain c.args.security c.args.number c.args.shares c.args.book.now in
     let a = answers c.args.security p c.args.ladder.now
-    (form_made c.args.security p c.args.ladder.now (sym c.in_range.ensures ∙ c.if-not-in_range.false) _ c.see-seen.ensures c.if-refusal-ne0.false
-    c.reduce_checked-reduced.ensures.refused c.reduce_checked-reduced.ensures.bytes c.keep.ensures) in
+    (form_made c.args.security p c.args.ladder.now (sym c.in_range.ensures ∙ c.if-not-in_range.false) _ c.in_ok-seen.ensures refl
+    c.in_ok-reduce_checked.ensures.refused c.in_ok-reduce_checked.ensures.bytes c.keep.ensures) in
     record { refused = a.0; bytes = a.1.0; ladder_bytes = a.1.1.0; kept_sound = a.1.1.1.0; kept_ladder = a.1.1.1.1.0; unchanged = a.1.1.1.1.1.0; as_plain = a.1.1.1.1.1.1 }

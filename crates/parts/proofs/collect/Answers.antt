@@ -3,7 +3,6 @@ use Prim.Native.Nat.{◌+◌, ◌<◌}
 use mathlib.Core.Path.{sym, ap, ◌∙◌}
 use mathlib.Core.List.{◌++◌, append-nil}
 use native.Mathlib.Omega.{arith}
-use borrow.Author.Rules.{rules}
 use lib.ListN.{length, take, drop}
 use Rattle.record.specs.Names.{named_numbers}
 use Rattle.book.specs.Sound.{orders_of, order_at}
@@ -24,10 +23,8 @@ pub write_parts-count-requires : goal.write_parts-count-requires
 write_parts-count-requires c =
     let h : c.loop-i.i < length (orders_of c.args.book.now) = omega arith in (
       omega (arith, sound_fits c.args.book.now c.requires.0),
-      search rules,
-      c.paragraph_numbers-paragraphs.ensures.0,
       (order_at c.args.book.now c.loop-i.i, order_at_sound c.args.book.now c.loop-i.i c.requires.0 h, c.numbers_at-numbers.ensures ∙ ap named_numbers (numbers_here c.args.book.now c.loop-i.i c.requires.0 h)),
-      omega (arith, c.loop-i.invariant.0, c.loop-i.invariant.2, c.requires.2),
+      omega (arith, c.loop-i.invariant.0, c.loop-i.invariant.1, c.requires.2),
     )
 
 pub loop-i-preserved : goal.loop-i-preserved
@@ -36,20 +33,18 @@ loop-i-preserved c =
     let h : c.loop-i.i < length (orders_of c.args.book.now) = omega arith in
     let e = c.numbers_at-numbers.ensures ∙ ap named_numbers (numbers_here c.args.book.now c.loop-i.i c.requires.0 h) in (
       c.write_parts-count.ensures.0 ∙ c.loop-i.invariant.0,
-      omega arith,
-      omega (arith, c.write_parts-count.ensures.1, c.loop-i.invariant.2),
-      λ alg t.
-          let rest = keys_from c.args.lot.0 alg c.args.incoming (c.loop-i.i + 1) (drop (c.loop-i.i + 1) (orders_of c.args.book.now)) in
-          c.write_parts-count.ensures.2 o alg rest (order_at_sound c.args.book.now c.loop-i.i c.requires.0 h) e t
-          ∙ ap (λ ks. take c.loop-i.count c.loop-i.keys ++ ks) (sym (parts_more c.args.lot.0 alg c.args.incoming c.args.book.now c.loop-i.i h))
-          ∙ c.loop-i.invariant.3 alg t,
+      omega (arith, c.write_parts-count.ensures.1, c.loop-i.invariant.1),
+      let rest = keys_from c.args.lot.0 c.args.algorithm c.args.incoming (c.loop-i.i + 1) (drop (c.loop-i.i + 1) (orders_of c.args.book.now)) in
+          c.write_parts-count.ensures.2 o c.args.algorithm rest (order_at_sound c.args.book.now c.loop-i.i c.requires.0 h) e c.paragraph_numbers.ensures.1
+          ∙ ap (λ ks. take c.loop-i.count c.loop-i.keys ++ ks) (sym (parts_more c.args.lot.0 c.args.algorithm c.args.incoming c.args.book.now c.loop-i.i h))
+          ∙ c.loop-i.invariant.2,
     )
 
 pub returns : goal.returns
 returns c =
     let d = parts_done c.args.lot.0 c.args.algorithm c.args.incoming c.args.book.now c.loop-i.i (omega arith) in (
-      omega (arith, c.loop-i.invariant.2),
+      omega (arith, c.loop-i.invariant.1),
       sym (append-nil (take c.loop-i.count c.loop-i.keys))
           ∙ ap (λ ks. take c.loop-i.count c.loop-i.keys ++ ks) (sym d)
-          ∙ c.loop-i.invariant.3 c.args.algorithm c.paragraph_numbers-paragraphs.ensures.1,
+          ∙ c.loop-i.invariant.2,
     )

@@ -1,6 +1,7 @@
 -- `allocation::credit::credit` meets its contract: the first k parts have got their shares.
 use Prim.Native.Nat.{◌+◌}
-use mathlib.Core.Path.{refl, ap}
+use mathlib.Core.Path.{refl, ap, ◌∙◌}
+use Rattle.parts.proofs.Keeping.{as_one}
 use native.Mathlib.Omega.{arith}
 use Rattle.allocation.proofs.Crediting.{begun_next, begun_note, begun_more}
 use Rattle.allocation.proofs.credit.credit.Goals as goal
@@ -28,4 +29,4 @@ pub loop-k-preserved : goal.loop-k-preserved
 loop-k-preserved c =
     λ alg q.
     begun_more (c.loop-k.invariant alg q) c.loop-k-test.true c.with_shares.ensures refl refl
-    c.sum-used.ensures (ap (λ n. c.loop-k.count + n) c.one_if.ensures.0) (λ v. c.note_part.ensures alg v q)
+    c.sum-used.ensures (ap (λ n. c.loop-k.count + n) (c.from-count.ensures ∙ as_one _)) (λ v. c.note_part.ensures alg v q)

@@ -1,7 +1,5 @@
 -- `allocation::credit::credit` meets its contract: the first k parts have got their shares.
-use Prim.Native.Nat.{◌-◌}
 use mathlib.Core.Path.{◌≡◌}
-use lib.ListN.{length}
 use Rattle.matching.specs.declared.Algorithm.{Algorithm}
 use Rattle.parts.specs.Visible.{last_shown}
 use Rattle.allocation.specs.Credit.{ledger}
@@ -12,6 +10,3 @@ abbrev pub invariant-loop-k : goal.invariant-loop-k
 invariant-loop-k l =
     (alg : Algorithm) → l.last ≡ last_shown alg
     → Begun alg l.keys l.gets (ledger (record { incoming = l.incoming; count = l.initial.count }) l.initial.fills l.initial.shown l.initial.hidden) l.k l.used.0 l.count l.fills l.shown l.hidden
-
-abbrev pub decreases-loop-k : goal.decreases-loop-k
-decreases-loop-k l = length l.keys - l.k

@@ -1,6 +1,6 @@
 -- `allocation::share::setter_place` meets its contract: none of the parts before is a setter.
 use Prim.Native.Nat.{◌<◌}
-use mathlib.Core.Path.{sym, ap, ◌∙◌}
+use mathlib.Core.Path.{◌≡◌, sym, ap, ◌∙◌}
 use native.Mathlib.Omega.{arith}
 use lib.ListN.{length}
 use Rattle.orders.specs.declared.order.Order.{Order}
@@ -32,4 +32,5 @@ loop-k-preserved c =
 
 pub returns : goal.returns
 returns c =
-    first_none (part_in (order_at c.args.book.now)) c.args.keys.now c.loop-k.k c.loop-k.invariant (omega arith)
+    let e : c.loop-k.k ≡ length c.args.keys.now = omega arith in
+    first_none (part_in (order_at c.args.book.now)) c.args.keys.now (length c.args.keys.now) (rw e at c.loop-k.invariant) (omega arith)

@@ -1,7 +1,5 @@
 -- `allocation::share::setter_place` meets its contract: none of the parts before is a setter.
-use Prim.Native.Nat.{◌-◌}
 use mathlib.Core.List.{map}
-use lib.ListN.{length}
 use Rattle.book.specs.Sound.{order_at}
 use Rattle.allocation.specs.Walk.{part_in}
 use Rattle.allocation.proofs.Setters.{NoneBefore}
@@ -9,6 +7,3 @@ use Rattle.allocation.proofs.share.setter_place.Given as goal
 
 abbrev pub invariant-loop-k : goal.invariant-loop-k
 invariant-loop-k l = NoneBefore (map (part_in (order_at l.book)) l.keys) l.k
-
-abbrev pub decreases-loop-k : goal.decreases-loop-k
-decreases-loop-k l = length l.keys - l.k

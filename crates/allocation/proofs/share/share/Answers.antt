@@ -13,14 +13,14 @@ use Rattle.allocation.proofs.share.share.Goals as goal
 pub divide-requires : goal.divide-requires
 divide-requires c =
     let way : c.method-method.result ≡ method_of c.args.algorithm (paragraph_of (group_in (get_or c.args.keys.now 0 0))) =
-    c.method-method.ensures ∙ ap (method_of c.args.algorithm) (c.of-paragraph.ensures ∙ ap paragraph_numbered c.paragraph.ensures) in
+    c.method-method.ensures ∙ ap (method_of c.args.algorithm) (c.from-paragraph.ensures ∙ ap paragraph_numbered c.paragraph.ensures) in
     divide_ready c.args.from.incoming.taker c.requires.0 c.requires.2 c.method-method.result way c.needs-setter.new.minimums c.needs-setter.result c.needs-setter.ensures
     c.sizes_of-total.ensures.0 c.sizes_of-total.ensures.1 (c.needs-setter.auto.minimums ∙ c.requires.1.for_minimums) c.requires.1.for_gets
 
 pub credit-requires : goal.credit-requires
 credit-requires c =
     let way : c.method-method.result ≡ method_of c.args.algorithm (paragraph_of (group_in (get_or c.args.keys.now 0 0))) =
-    c.method-method.ensures ∙ ap (method_of c.args.algorithm) (c.of-paragraph.ensures ∙ ap paragraph_numbered c.paragraph.ensures) in
+    c.method-method.ensures ∙ ap (method_of c.args.algorithm) (c.from-paragraph.ensures ∙ ap paragraph_numbered c.paragraph.ensures) in
     let got =
     divide_gives c.args.from.incoming.taker c.requires.0 c.requires.2 c.method-method.result way c.needs-setter.new.minimums c.needs-setter.result c.needs-setter.ensures
     c.sizes_of-total.ensures.0 c.divide.ensures in (
@@ -32,7 +32,7 @@ credit-requires c =
 pub returns : goal.returns
 returns c =
     let way : c.method-method.result ≡ method_of c.args.algorithm (paragraph_of (group_in (get_or c.args.keys.now 0 0))) =
-    c.method-method.ensures ∙ ap (method_of c.args.algorithm) (c.of-paragraph.ensures ∙ ap paragraph_numbered c.paragraph.ensures) in
+    c.method-method.ensures ∙ ap (method_of c.args.algorithm) (c.from-paragraph.ensures ∙ ap paragraph_numbered c.paragraph.ensures) in
     let got =
     divide_gives c.args.from.incoming.taker c.requires.0 c.requires.2 c.method-method.result way c.needs-setter.new.minimums c.needs-setter.result c.needs-setter.ensures
     c.sizes_of-total.ensures.0 c.divide.ensures in

@@ -4,8 +4,5 @@ use mathlib.Core.Path.{◌≡◌}
 use Rattle.allocation.specs.Stretch.{group_at}
 use Rattle.allocation.proofs.stretch.group_start.Given as goal
 
-abbrev pub invariant-loop-k : goal.invariant-loop-k
-invariant-loop-k l = (l.k ≤ l.place) × ((j : ℕ) → l.k ≤ j → j < l.place → group_at l.keys j ≡ group_at l.keys l.place)
-
-abbrev pub decreases-loop-k : goal.decreases-loop-k
-decreases-loop-k l = l.k
+abbrev pub invariant-loop-j : goal.invariant-loop-j
+invariant-loop-j l = (l.j ≤ l.place) × ((j : ℕ) → l.j ≤ j → j < l.place → group_at l.keys j ≡ group_at l.keys l.place)

@@ -1,23 +1,28 @@
 -- `conversion::turning::are_plain` meets its contract: what was read and what is left are plain where all the records are.
-use Prim.Native.Nat.{◌+◌, ◌-◌, ◌*◌, ◌≤◌}
-use mathlib.Core.Path.{◌∙◌}
-use native.Mathlib.Omega.{arith}
-use native.Mathlib.Nat.{add-sub_cancel_left}
-use lib.ListN.{length}
-use Rattle.record.specs.Record.{order_bytes}
+use Rattle.std.proofs.Common.{◌∙◌, arith, sym, ap}
+use mathlib.Core.Bool.{and-true, and_assoc}
+use Rattle.units.specs.Lists.{all}
 use Rattle.record.specs.Names.{form_of}
-use Rattle.book.proofs.Walking.{all_more}
+use Rattle.book.proofs.Walking.{has_bytes, records_front, records_next, records_end}
 use Rattle.conversion.specs.Plain.{is_plain}
-use Rattle.conversion.proofs.Widths.{width_more}
 use Rattle.conversion.proofs.turning.are_plain.Goals as goal
 
-pub loop-left-preserved : goal.loop-left-preserved
-loop-left-preserved c =
-    let bytes = order_bytes (form_of c.args.form) in
-    let inside : c.loop-left.at + c.bytes-width.result + bytes * (c.loop-left.left - 1) ≤ length c.args.book.now
-    = omega (arith, c.bytes-width.ensures, c.loop-left.invariant.0, width_more bytes c.loop-left.left c.loop-left-test.true) in
-    let e = rw (add-sub_cancel_left, c.bytes-width.ensures) at c.is_plain-plain.ensures in (
-      inside,
-      rw (c.bytes-width.ensures, e) (all_more (form_of c.args.form) c.args.book.now c.loop-left.at _ c.loop-left-test.true (is_plain (form_of c.args.form)) c.loop-left.plain)
-          ∙ c.loop-left.invariant.1,
-    )
+pub loop-rec-init : goal.loop-rec-init
+loop-rec-init c =
+    let f = form_of c.args.form in
+    rw (c.into_iter-rec-iterator.ensures.into_iter_gives, c.chunks_exact-rec-items.ensures.rest, c.bytes-width.ensures)
+    record {
+      size = c.chunks_exact-rec-items.ensures.size ∙ c.bytes-width.ensures;
+      plain = ap (all (is_plain f)) (records_front f (has_bytes c.args.form) c.args.n c.args.book.now c.requires).1;
+    }
+
+pub loop-rec-preserved : goal.loop-rec-preserved
+loop-rec-preserved c =
+    let step = c.in-Some.ensures.steps in
+    let next = records_next (form_of c.args.form) (has_bytes c.args.form) _ _ _ step.1.0 (step.1.1 ∙ c.loop-rec.invariant.size) in
+    record { size = step.0 ∙ c.loop-rec.invariant.size; plain = rw (c.is_plain-plain.ensures, and_assoc) (rw next at c.loop-rec.invariant.plain) }
+
+pub returns : goal.returns
+returns c =
+    let end = records_end (form_of c.args.form) (has_bytes c.args.form) c.loop-rec.rec-iterator.rest.now (omega (arith, c.in-None.ensures.steps.1.0)) in
+    sym (and-true c.loop-rec.plain) ∙ (rw end at c.loop-rec.invariant.plain)

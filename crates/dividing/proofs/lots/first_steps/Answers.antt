@@ -9,10 +9,10 @@ use Rattle.dividing.proofs.lots.first_steps.Goals as goal
 
 pub sum-sum-requires : goal.sum-sum-requires
 sum-sum-requires c =
-    let f = first_of c.args.lot.0 c.args.q.0 c.args.s.0 in
+    let f = first_of c.args.amounts.lot.0 c.args.amounts.left.0 c.args.amounts.total.0 in
     omega (
       arith,
       c.first_step-part.ensures,
       ap sum (map_more f c.args.sizes.now c.loop-j.j (omega arith)),
-      sum_within f (first_within c.args.lot.0 c.args.q.0 c.args.s.0 (omega arith)) c.args.sizes.now,
+      sum_within f (first_within c.args.amounts.lot.0 c.args.amounts.left.0 c.args.amounts.total.0 (omega arith)) c.args.sizes.now,
     )

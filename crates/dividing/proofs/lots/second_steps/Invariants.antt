@@ -1,6 +1,5 @@
 -- `dividing::lots::second_steps` meets its contract: the column is written from the front.
-use Prim.Native.Nat.{◌-◌}
-use lib.ListN.{length, drop}
+use lib.ListN.{drop}
 use Rattle.units.specs.Lists.{zip_with}
 use Rattle.dividing.specs.Columns.{second_of}
 use Rattle.units.proofs.Columns.{Put}
@@ -9,6 +8,3 @@ use Rattle.dividing.proofs.lots.second_steps.Given as goal
 abbrev pub invariant-loop-j : goal.invariant-loop-j
 invariant-loop-j l =
     Put l.initial.wants (zip_with (second_of l.lot.0) l.sizes l.gets) l.wants l.j (zip_with (second_of l.lot.0) (drop l.j l.sizes) (drop l.j l.gets))
-
-abbrev pub decreases-loop-j : goal.decreases-loop-j
-decreases-loop-j l = length l.sizes - l.j

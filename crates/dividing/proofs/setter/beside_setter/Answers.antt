@@ -15,5 +15,5 @@ lot_sharing-requires c =
 pub returns : goal.returns
 returns c =
     λ ps z at.
-    beside_put ps z c.args.place at c.args.q.0 c.requires.1 c.requires.2 c.args.lot.0
-    (c.lot_sharing.ensures (others ps) (others_columns ps z c.args.place at) ∙ rw c.difference.ensures)
+    beside_put ps z c.args.place at c.args.amounts.left.0 c.requires.1 c.requires.2 c.args.amounts.lot.0
+    (c.lot_sharing.ensures (others ps) (others_columns ps z c.args.place at) ∙ rw c.difference-2.ensures)

@@ -10,20 +10,21 @@ use Rattle.dividing.proofs.setter.setter_sharing.Goals as goal
 
 pub returns-then-sizes-place : goal.returns-then-sizes-place
 returns-then-sizes-place c =
-    λ ps z at. c.lot_sharing.ensures ps z ∙ none_holds c.args.lot.0 c.args.q.0 ps c.args.place at (omega (arith, sizes_length ps z))
+    λ ps z at. c.lot_sharing.ensures ps z ∙ none_holds c.args.amounts.lot.0 c.args.amounts.left.0 ps c.args.place at (omega (arith, sizes_length ps z))
 
-pub turn_at-more-requires : goal.turn_at-more-requires
-turn_at-more-requires c = (search rules, omega (arith, wanted c.steps-rest.ensures), search rules)
+pub invariant_of-round : goal.invariant_of-round
+invariant_of-round c = record {
+  as_many = search rules;
+  countable = omega (arith, wanted c.steps-rest.ensures);
+}
 
-pub go_round-requires : goal.go_round-requires
-go_round-requires c = (
+pub serve-requires : goal.serve-requires
+serve-requires c = (
   search rules,
-  search rules,
-  omega (arith, wanted c.steps-rest.ensures),
   λ i. omega (
     arith,
     room c.steps-rest.ensures c.requires.within i,
-    bound_done c.args.sizes.now (length c.args.sizes.now) c.args.s.0 (λ k h. omega (arith, sum_set c.args.sizes.now k h)) (omega arith) i,
+    bound_done c.args.sizes.now (length c.args.sizes.now) c.args.amounts.total.0 (λ k h. omega (arith, sum_set c.args.sizes.now k h)) (omega arith) i,
   ),
   λ i h. omega arith,
 )
@@ -31,7 +32,7 @@ go_round-requires c = (
 pub returns-then-guaranteed-share : goal.returns-then-guaranteed-share
 returns-then-guaranteed-share c =
     λ ps z at.
-    put_together c.steps-rest.ensures c.requires.totals ps z c.go_round.ensures
+    put_together c.steps-rest.ensures c.requires.totals ps z c.serve.ensures
     ∙ plain_holds c.steps-rest.ensures c.requires.totals c.args.place c.if-sizes-place.false (c.sum-share.ensures ∙ rw c.turn_at-more.ensures)
     c.guarantee-guaranteed.ensures ps z at c.if-guaranteed-share.true
 

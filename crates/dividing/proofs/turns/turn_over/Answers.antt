@@ -2,5 +2,5 @@
 use Rattle.units.proofs.Columns.{put_at}
 use Rattle.dividing.proofs.turns.turn_over.Goals as goal
 
-pub overflow_sub-column : goal.overflow_sub-column
-overflow_sub-column c = rw (put_at c.loop-j.invariant) (c.requires c.loop-j.j)
+pub overflow_sub-x : goal.overflow_sub-x
+overflow_sub-x c = rw (put_at c.loop-x.invariant) (c.requires c.loop-x.x-index)

@@ -11,6 +11,6 @@ returns c =
       c.is_priced_better.ensures,
       c.is_displayed.ensures (get_or ns 5 0) (get_or ns 10 0) (get_or ns 11 0),
       c.is_opposite.ensures,
-      c.of.ensures,
+      c.from.ensures,
       e,
     )

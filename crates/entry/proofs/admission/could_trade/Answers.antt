@@ -8,4 +8,4 @@ pub returns : goal.returns
 unfolding order_of
 returns c =
     λ ns e s.
-    rw (c.within_limit.ensures, c.is_opposite.ensures, c.of.ensures, e, s, minimum_test (get_or ns 1 0) (get_or ns 5 0) (get_or ns 10 0) (get_or ns 11 0) _)
+    rw (c.within_limit.ensures, c.is_opposite.ensures, c.from.ensures, e, s, minimum_test (get_or ns 1 0) (get_or ns 5 0) (get_or ns 10 0) (get_or ns 11 0) _)

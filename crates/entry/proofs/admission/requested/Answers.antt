@@ -4,4 +4,4 @@ use Rattle.entry.proofs.admission.requested.Goals as goal
 
 pub returns : goal.returns
 unfolding requested
-returns c = rw (c.of-2.ensures, c.of.ensures)
+returns c = rw (c.of.ensures, c.from.ensures)

@@ -74,4 +74,5 @@ loop-i-preserved c =
 pub returns : goal.returns
 returns c =
     let e : map (row_of_key c.args.book.now) (drop c.loop-i.i c.args.keys.now) ≡ [] = rw (drop_of_length-le c.args.keys.now {i = c.loop-i.i} (omega arith)) in
-    (c.loop-i.invariant.0, c.loop-i.invariant.1, joining_done c.loop-i.invariant.2 e)
+    let q : c.loop-i.i ≡ length c.args.keys.now = omega (arith, c.loop-i.invariant.1) in
+    (omega arith, omega arith, rw q at (joining_done c.loop-i.invariant.2 e))

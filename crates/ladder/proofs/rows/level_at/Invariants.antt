@@ -8,6 +8,3 @@ use Rattle.ladder.proofs.rows.level_at.Given as goal
 abbrev pub invariant-loop-i : goal.invariant-loop-i
 invariant-loop-i l =
     (l.from < l.i) × (l.i ≤ length l.keys) × Joining (map (row_of_key l.book) (drop l.from l.keys)) l.row (l.i - l.from) (map (row_of_key l.book) (drop l.i l.keys))
-
-abbrev pub decreases-loop-i : goal.decreases-loop-i
-decreases-loop-i l = length l.keys - l.i

@@ -1,5 +1,5 @@
 -- `ladder::rows::write_keys` meets its contract: the keys kept so far, and those of the orders that are left, are the keys of all.
-use Prim.Native.Nat.{◌-◌, ◌≤◌}
+use Prim.Native.Nat.{◌≤◌}
 use mathlib.Core.Path.{◌≡◌}
 use mathlib.Core.List.{◌++◌}
 use lib.ListN.{length, take, drop}
@@ -13,6 +13,3 @@ invariant-loop-i l =
     × (l.i ≤ l.n)
     × (l.count ≤ l.i)
     × (take l.count l.keys ++ keys_from l.security l.i (drop l.i (orders_of l.book)) ≡ keys_from l.security 0 (orders_of l.book))
-
-abbrev pub decreases-loop-i : goal.decreases-loop-i
-decreases-loop-i l = l.n - l.i

@@ -1,11 +1,23 @@
--- `lookup::place::count_of` meets its contract: those counted and those of the security among the rest are all that are of it.
-use native.Mathlib.Omega.{arith}
-use borrow.Author.Tests.{eq-eqb, ne_eqb}
+-- `lookup::place::count_of` meets its contract: the records are counted whose order is of the security.
+use Rattle.std.proofs.Common.{rules, ◌≡◌, ◌∙◌, arith, ℕ, List}
+use Rattle.std.specs.List.{count_by}
+use Rattle.std.proofs.lemmas.List.Sums.{count_by-le-length}
 use Rattle.orders.specs.Trading.{of_security}
-use Rattle.lookup.proofs.Counting.{counted_more, counted_same}
+use Rattle.record.specs.Record.{decode_order}
+use Rattle.book.specs.Sound.{form, first_records}
+use Rattle.book.proofs.Soundness.{length_records}
+use Rattle.lookup.proofs.Counting.{counted}
 use Rattle.lookup.proofs.place.count_of.Goals as goal
-use Rattle.lookup.proofs.place.count_of.Goals.{else-order_at-security, then-order_at-security}
 
-pub loop-left-preserved : goal.loop-left-preserved
-loop-left-preserved c =
-    elim c.if-order_at-security.branch [ then-order_at-security w ↦ omega (arith, counted_more (of_security c.args.security) c.args.book.now c.loop-left.at _ c.loop-left-test.true _ c.order_at.ensures (eq-eqb _ _ w.if-order_at-security.true)) | else-order_at-security w ↦ omega (arith, counted_same (of_security c.args.security) c.args.book.now c.loop-left.at _ c.loop-left-test.true _ c.order_at.ensures (ne_eqb _ _ w.if-order_at-security.false)) ]
+pub overflow_cast-result : goal.overflow_cast-result
+overflow_cast-result c =
+    let rs = first_records form c.args.n c.args.book.now in
+    let p = λ (r : List ℕ). of_security c.args.security (decode_order form r) in
+    let e : c.count.result ≡ count_by p rs = search rules in
+    omega (arith, count_by-le-length p rs, length_records form c.args.n c.args.book.now)
+
+pub returns : goal.returns
+returns c =
+    let rs = first_records form c.args.n c.args.book.now in
+    let e : c.count.result ≡ count_by (λ r. of_security c.args.security (decode_order form r)) rs = search rules in
+    e ∙ counted (of_security c.args.security) rs

@@ -1,9 +1,10 @@
 -- `lookup::setters::are_apart_by_key` meets its contract: the keys of the marked orders that were read are gathered.
+use lib.ListN.{drop}
+use mathlib.Core.List.{map}
+use Rattle.record.specs.Record.{decode_order}
+use Rattle.book.specs.Sound.{form, first_orders}
 use Rattle.lookup.proofs.Gathering.{Gathered}
 use Rattle.lookup.proofs.setters.are_apart_by_key.Given as goal
 
-abbrev pub invariant-loop-left : goal.invariant-loop-left
-invariant-loop-left l = Gathered l.book l.n l.keys l.marked l.at l.left
-
-abbrev pub decreases-loop-left : goal.decreases-loop-left
-decreases-loop-left l = l.left
+abbrev pub invariant-loop-rec : goal.invariant-loop-rec
+invariant-loop-rec l = Gathered (first_orders l.n l.book) l.keys l.marked (map (decode_order form) (drop l.rec-index l.rec-items))

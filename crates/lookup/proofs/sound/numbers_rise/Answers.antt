@@ -1,9 +1,11 @@
 -- `lookup::sound::numbers_rise` meets its contract: those that were read rise, and what is left rises above the last, where all rise.
-use mathlib.Core.Path.{◌∙◌}
-use borrow.Author.Rules.{rules}
-use Rattle.book.proofs.Walking.{rising_more}
+use Rattle.std.proofs.Common.{◌∙◌, sym}
+use mathlib.Core.Bool.{and-true, and_assoc}
+use Rattle.book.proofs.Walking.{orders_next, orders_end}
 use Rattle.lookup.proofs.sound.numbers_rise.Goals as goal
 
-pub loop-left-preserved : goal.loop-left-preserved
-loop-left-preserved c =
-    (search rules, rising_more c.args.book.now c.loop-left.at _ c.loop-left-test.true _ c.order_at-number.ensures c.loop-left.last c.loop-left.rising ∙ c.loop-left.invariant.1)
+pub loop-rec-preserved : goal.loop-rec-preserved
+loop-rec-preserved c = rw and_assoc (rw (orders_next _ _ c.loop-rec-test.true _ c.read-number.ensures) at c.loop-rec.invariant)
+
+pub returns : goal.returns
+returns c = sym (and-true c.loop-rec.rising) ∙ (rw (orders_end _ _ c.loop-rec-test.false) at c.loop-rec.invariant)

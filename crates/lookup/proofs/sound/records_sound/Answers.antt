@@ -1,13 +1,16 @@
--- `lookup::sound::records_sound` meets its contract: what was read and what is left are sound where all the records are.
-use mathlib.Core.Path.{◌∙◌}
-use native.Mathlib.Nat.{add-sub_cancel_left}
-use borrow.Author.Rules.{rules}
+-- `lookup::sound::records_sound` meets its contract: the fold asks every record.
+use Rattle.std.proofs.Common.{rules, ◌≡◌, ◌∙◌, ◌&&◌, true, ap}
+use mathlib.Core.List.{map}
+use Rattle.units.specs.Lists.{all}
 use Rattle.record.specs.Record.{record_sound}
-use Rattle.book.specs.Sound.{form}
-use Rattle.book.proofs.Walking.{all_more}
+use Rattle.book.specs.Sound.{form, first_records}
+use Rattle.book.proofs.Walking.{all_folded}
 use Rattle.lookup.proofs.sound.records_sound.Goals as goal
 
-pub loop-left-preserved : goal.loop-left-preserved
-loop-left-preserved c =
-    let e = rw add-sub_cancel_left at c.is_sound-sound.ensures in
-    (search rules, rw e (all_more form c.args.book.now c.loop-left.at _ c.loop-left-test.true (record_sound form) c.loop-left.sound) ∙ c.loop-left.invariant.1)
+pub returns : goal.returns
+returns c =
+    let run = c.fold.ensures.runs.0 in
+    let items : map (λ x. x.now) run.items ≡ first_records form c.args.n c.args.book.now = search rules in
+    c.fold.ensures.runs.3 (λ a x. a && record_sound form x.now) (search rules)
+    ∙ all_folded (λ x. x.now) (record_sound form) true run.items
+    ∙ ap (all (record_sound form)) items

@@ -9,8 +9,8 @@ sum-total-requires c =
     let f = free_shares c.args.algorithm c.args.rank in
     omega (
       arith,
-      c.loop-k.invariant.1 c.args.algorithm c.minimum_paragraph-excluded.ensures,
+      c.loop-key.invariant c.args.algorithm c.minimum_paragraph-excluded.ensures,
       c.free_shares.ensures c.args.algorithm c.minimum_paragraph-excluded.ensures,
-      total_more f c.args.keys.now c.loop-k.k (omega arith),
+      total_more f c.args.keys.now c.loop-key.key-index (omega arith),
       total_most c.args.algorithm c.args.rank c.args.keys.now,
     )

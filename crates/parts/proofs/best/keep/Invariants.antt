@@ -1,5 +1,5 @@
 -- `parts::best::keep` meets its contract: the keys kept so far, and those of the rank among the keys that are left, are those of the rank.
-use Prim.Native.Nat.{◌-◌, ◌≤◌}
+use Prim.Native.Nat.{◌≤◌}
 use mathlib.Core.Path.{◌≡◌}
 use mathlib.Core.List.{◌++◌}
 use lib.ListN.{length, take, drop}
@@ -13,6 +13,3 @@ invariant-loop-k l =
     × (l.k ≤ length l.keys)
     × (l.count ≤ l.k)
     × (take l.count l.keys ++ filter (of_rank l.rank) (drop l.k l.keys) ≡ filter (of_rank l.rank) l.initial.keys)
-
-abbrev pub decreases-loop-k : goal.decreases-loop-k
-decreases-loop-k l = length l.initial.keys - l.k

@@ -1,6 +1,4 @@
 -- `settlement::executions::write` meets its contract: the executions of the first fills are written.
-use Prim.Native.Nat.{◌-◌}
-use lib.ListN.{length}
 use Rattle.book.specs.Sound.{order_at}
 use Rattle.parts.specs.Execution.{execution_of}
 use Rattle.settlement.proofs.Writing.{Writing}
@@ -8,6 +6,3 @@ use Rattle.settlement.proofs.executions.write.Given as goal
 
 abbrev pub invariant-loop-k : goal.invariant-loop-k
 invariant-loop-k l = Writing (execution_of (order_at l.book)) l.fills l.initial.executions l.executions l.k
-
-abbrev pub decreases-loop-k : goal.decreases-loop-k
-decreases-loop-k l = length l.fills - l.k

@@ -8,7 +8,7 @@ use Rattle.settlement.proofs.settling.close_gaps.Goals.{else-stays, then-stays}
 
 pub loop-i-init : goal.loop-i-init
 loop-i-init c =
-    (passed_gone (passed_none c.requires.0) c.requires.1 0 0 c.requires.2, omega arith, omega arith)
+    (passed_gone (passed_none c.requires.0) c.requires.1 0 0 c.requires.2, omega arith)
 
 pub stays-requires : goal.stays-requires
 stays-requires c = record_next c.loop-i.invariant.0 (search rules) 0 0
@@ -22,14 +22,12 @@ loop-i-preserved c =
     let e = sym c.stays.ensures in
     elim c.if-stays.branch [
       | then-stays w ↦ (
-        rw (w.part-is, w.kept-is, w.moves-is) (passed_moved c.loop-i.invariant.0 (search rules) _ _ (e ∙ w.if-stays.true) c.loop-i.invariant.1 w.move_up.ensures),
+        rw (w.part-is, w.kept-is) (passed_moved c.loop-i.invariant.0 (search rules) _ _ (e ∙ w.if-stays.true) c.loop-i.invariant.1 w.move_up.ensures),
         omega (arith, w.kept-is, c.loop-i.invariant.1),
-        omega (arith, w.moves-is, c.loop-i.invariant.2),
       )
       | else-stays w ↦ (
-        rw (w.part-is, w.kept-is, w.moves-is) (passed_gone c.loop-i.invariant.0 (search rules) _ _ (e ∙ w.if-stays.false)),
+        rw (w.part-is, w.kept-is) (passed_gone c.loop-i.invariant.0 (search rules) _ _ (e ∙ w.if-stays.false)),
         omega (arith, w.kept-is, c.loop-i.invariant.1),
-        omega (arith, w.moves-is, c.loop-i.invariant.2),
       )
     ]
 

@@ -1,10 +1,7 @@
 -- `settlement::settling::close_gaps` meets its contract: the first i orders have lost their shares, and one of them has left.
-use Prim.Native.Nat.{◌-◌, ◌<◌}
+use Prim.Native.Nat.{◌<◌}
 use Rattle.settlement.proofs.Passing.{Passed}
 use Rattle.settlement.proofs.settling.close_gaps.Given as goal
 
 abbrev pub invariant-loop-i : goal.invariant-loop-i
-invariant-loop-i l = Passed l.initial.part l.n l.shown l.hidden l.part l.i l.kept l.moves × (l.kept < l.i) × (l.moves < l.i)
-
-abbrev pub decreases-loop-i : goal.decreases-loop-i
-decreases-loop-i l = l.n - l.i
+invariant-loop-i l = Passed l.initial.part l.n l.shown l.hidden l.part l.i l.kept l.kept × (l.kept < l.i)

@@ -35,7 +35,7 @@ pub returns-then-not-stays : goal.returns-then-not-stays
 returns-then-not-stays c =
     let at = 40 * c.loop-i.i in
     let e = rw (take_rest at c.loop-i.book, take_rest c.loop-i.i c.args.shown.now, take_rest c.loop-i.i c.args.hidden.now) at c.close_gaps.ensures in
-    let z = are_bytes c.args.book.now (λ j. omega (arith, c.slice_known-1.given j)) in
+    let z = are_bytes c.args.book.now (search rules) in
     let a = closed_book c.args.book.now c.requires.0 c.args.n c.requires.1 z c.args.shown.now c.args.hidden.now
     (put_rest at c.loop-i.book c.close_gaps.new.part (omega (arith, c.loop-i.invariant.begun.room, c.loop-i.invariant.bytes.long)) ∙ ap (λ x. take at c.loop-i.book ++ x) e.bytes ∙ closed_both c.loop-i.invariant c.loop-i-test.true)
     (e.moves ∙ moves_behind_all c.loop-i.invariant c.loop-i-test.true) in
@@ -51,6 +51,6 @@ loop-i-preserved c =
 pub returns : goal.returns
 returns c =
     let e : c.loop-i.i ≡ c.args.n = omega (arith, c.loop-i.invariant.within) in
-    let z = are_bytes c.args.book.now (λ j. omega (arith, c.slice_known-1.given j)) in
+    let z = are_bytes c.args.book.now (search rules) in
     let a = closed_book c.args.book.now c.requires.0 c.args.n c.requires.1 z c.args.shown.now c.args.hidden.now {m = 0} (closed_none c.loop-i.invariant e) (moved_done c.loop-i.invariant e) in
     record { bytes = a.0; moves = a.1.0; places = a.1.1 }

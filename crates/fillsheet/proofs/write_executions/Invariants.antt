@@ -1,9 +1,0 @@
--- `fillsheet::write_executions` is safe and ends: no more executions are read than the buffer has room for.
-use Rattle.std.proofs.Common.{◌*◌, ◌-◌, ◌≤◌, length}
-use Rattle.fillsheet.proofs.write_executions.Given as goal
-
-abbrev pub invariant-loop-k : goal.invariant-loop-k
-invariant-loop-k g l = 16 * l.n ≤ length l.executions
-
-abbrev pub decreases-loop-k : goal.decreases-loop-k
-decreases-loop-k g l = l.n - l.k
