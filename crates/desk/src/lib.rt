@@ -22,10 +22,13 @@ pub struct Desk<'a> {
 }
 
 impl Desk<'_> {
-    // A command is given to the desk; a line that is none is refused. Only an accepted take has something to list.
+    // A command is given to the desk; a line that is none is refused. Only an accepted take has something to list. The desk keeps the two
+    // buffers that it was lent.
     pub fn perform(&mut self, command: Option<Command>) -> Result<Option<Filled>, Refusal>
-        ensures { record { answer = numbered result; desk = desk_of self.new.book.now self.new.executions.now self.new.algorithm }
+        ensures answer { record { answer = numbered result; desk = desk_of self.new.book.now self.new.executions.now self.new.algorithm }
             ≡ performed command (desk_of self.old.book.now self.old.executions.now self.old.algorithm) }
+        ensures same_book { self.new.book.ghost_name ≡ self.old.book.ghost_name }
+        ensures same_executions { self.new.executions.ghost_name ≡ self.old.executions.ghost_name }
     {
         let Some(command) = command else {
             return Err(Refusal::OutOfRange);
